@@ -1,0 +1,11 @@
+pub mod Allotting
+pub mod Averages
+pub mod Entries
+pub mod Filled
+pub mod Magnitudes
+pub mod Prices
+pub mod Products
+pub mod Splits
+pub mod Steps
+pub mod Taken
+pub mod Worths

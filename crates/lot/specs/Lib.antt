@@ -1,0 +1,10 @@
+pub mod Allocation
+pub mod Allotments
+pub mod Average
+pub mod Bids
+pub mod Class
+pub mod Entering
+pub mod Lots
+pub mod Price
+pub mod Ranges
+pub mod Rungs
