@@ -1,26 +1,28 @@
--- The allocations of a lot: the whole lot where it has a price, nothing where it has none, and no bid gets more than its size. Assumes nothing.
+-- The allocations of a lot: what they add up to, that no bid gets more than its size, and which bids are served. Assumes nothing.
 use mathlib.Core.Path.{_≡_, refl, sym, ap, _∙_}
 use mathlib.Core.Bool.{Bool, true, false, cond, _&&_}
 use mathlib.Core.List.{List, [], _∷_, map}
 use mathlib.Core.Logic.{⊎-elim}
-use Prim.Native.Nat.{ℕ, zero, suc, _+_, _-_, _≤_, _<_}
+use Prim.Native.Nat.{ℕ, zero, suc, _+_, _-_, _*_, _≤_, _<_}
 use native.Mathlib.Omega.{arith}
 use lib.IntN.{ℤ, pos, _+ℤ_}
 use lib.ListN.{length, getD}
-use lib.Signed.{leZ, ltZ, _≤ℤ_}
+use lib.Signed.{leZ, ltZ, _≤ℤ_, _<ℤ_}
+use Rattle.std.specs.Options.{isSome}
 use Rattle.std.specs.declared.option.Option.the-variants.{Some}
-use Rattle.std.specs.shelf.Lists.{All, sumBy}
+use Rattle.std.specs.shelf.Lists.{All}
 use Rattle.std.proofs.shelf.Counted.{length-map-counting, getD-map-counting}
 use Rattle.std.proofs.shelf.Elements.{all-has, all-weaker}
-use Rattle.std.proofs.shelf.Lists.{getD-past, length-map}
+use Rattle.std.proofs.shelf.Lists.{getD-map, getD-past, length-map}
 use Rattle.std.proofs.shelf.Signed.{ints}
 use Rattle.std.proofs.shelf.Sums.{sumBy-cons, sum-map}
-use Rattle.std.proofs.shelf.Tests.{and-from, and-parts, cases-lt, cond-both, not-true}
+use Rattle.std.proofs.shelf.Tests.{and-from, and-left, and-parts, and-right, both-ways, cases-lt, cond-both, cond-false, cond-true, not-true}
+use Rattle.share.specs.Laws.{Within}
 use Rattle.share.specs.Rule.{total, share-of, shares-of}
-use Rattle.share.proofs.Shares.{adds-up-within, within-weight}
+use Rattle.share.proofs.Shares.{adds-up-within, near, within-weight}
 use Rattle.lot.specs.Bids.{whole, is-standard, standard-of, all-or-nothing-of, offered, same-price}
-use Rattle.lot.specs.Price.{at-or-better, demand, reached, all-or-nothing-price, clearing}
-use Rattle.lot.specs.Allocation.{above, tied, all-above, plus, down-to, nothing, takes-all, first-takes, allotted, allocations, size-of, Allocation-law}
+use Rattle.lot.specs.Price.{at-or-better, demand, reached, all-or-nothing-price, lot-price, clearing}
+use Rattle.lot.specs.Allocation.{above, tied, all-above, all-tied, plus, down-to, nothing, takes-all, first-takes, allotted, allocations, size-of, Bid-at, sets-price, None-before, Allocation-law}
 use Rattle.lot.specs.declared.bid.Bid.{Bid}
 use Rattle.lot.specs.declared.bid.Price.{Price}
 use Rattle.lot.specs.declared.bid.Whose.{Whose}
@@ -41,9 +43,13 @@ getD-nothing (b ∷ bs) (suc i) = getD-nothing bs i
 
 -- all to one
 module _ (p : Price) where
+  -- a bid takes all, or leaves it to those after it
+  first-takes-both : (b : Bid) (bs : List Bid) (P : List ℕ → Type 0) → (takes-all p b ≡ true → P (whole ∷ nothing bs)) → (takes-all p b ≡ false → P (0 ∷ first-takes p bs)) → P (first-takes p (b ∷ bs))
+  first-takes-both b bs = cond-both (takes-all p b) (whole ∷ nothing bs) (0 ∷ first-takes p bs)
+
   length-first-takes : (bs : List Bid) → length (first-takes p bs) ≡ length bs
   length-first-takes [] = refl
-  length-first-takes (b ∷ bs) = cond-both (takes-all p b) (whole ∷ nothing bs) (0 ∷ first-takes p bs) (λ ks. length ks ≡ suc (length bs))
+  length-first-takes (b ∷ bs) = first-takes-both b bs (λ ks. length ks ≡ suc (length bs))
       (λ _. ap suc (length-map bs (λ b. 0))) (λ _. ap suc (length-first-takes bs))
 
   total-taken : (bs : List Bid) → total (whole ∷ nothing bs) ≡ whole
@@ -53,7 +59,7 @@ module _ (p : Price) where
   all-total-first-takes [] = tt
   all-total-first-takes (b ∷ bs) = (
     λ takes. rw takes (total-taken bs),
-    all-weaker _ _ (λ c later takes. cond-both (takes-all p b) (whole ∷ nothing bs) (0 ∷ first-takes p bs) (λ ks. total ks ≡ whole)
+    all-weaker _ _ (λ c later takes. first-takes-both b bs (λ ks. total ks ≡ whole)
         (λ _. total-taken bs) (λ _. later takes)) bs (all-total-first-takes bs),
   )
 
@@ -68,10 +74,28 @@ module _ (p : Price) where
 
   first-takes-within : (bs : List Bid) → All (λ b. is-standard b ≡ false → b .size .0 ≡ whole) bs → (i : ℕ) → getD (first-takes p bs) i 0 ≤ getD (map size-of bs) i 0
   first-takes-within [] sized i = omega arith
-  first-takes-within (b ∷ bs) sized zero = cond-both (takes-all p b) (whole ∷ nothing bs) (0 ∷ first-takes p bs) (λ ks. getD ks 0 0 ≤ size-of b)
+  first-takes-within (b ∷ bs) sized zero = first-takes-both b bs (λ ks. getD ks 0 0 ≤ size-of b)
       (λ takes. omega (arith, sized .0 (not-true _ (and-parts _ _ takes .0)))) (λ _. omega arith)
-  first-takes-within (b ∷ bs) sized (suc i) = cond-both (takes-all p b) (whole ∷ nothing bs) (0 ∷ first-takes p bs) (λ ks. getD ks (suc i) 0 ≤ getD (map size-of bs) i 0)
+  first-takes-within (b ∷ bs) sized (suc i) = first-takes-both b bs (λ ks. getD ks (suc i) 0 ≤ getD (map size-of bs) i 0)
       (λ _. omega (arith, getD-nothing bs i)) (λ _. first-takes-within bs (sized .1) i)
+
+  none-before-more : (a : Bid) (bs : List Bid) (i : ℕ) → takes-all p a ≡ false → None-before p bs i → None-before p (a ∷ bs) (suc i)
+  none-before-more a bs i passed none zero c early here = ap (takes-all p) (here .1) ∙ passed
+  none-before-more a bs i passed none (suc k) c early here = none k c (omega arith) (omega (arith, here .0), here .1)
+
+  first-takes-earliest : (bs : List Bid) (i : ℕ) (b : Bid) → Bid-at bs i b → 0 < getD (first-takes p bs) i 0 → (takes-all p b ≡ true) × None-before p bs i
+  first-takes-earliest [] i b here = absurd (omega (arith, here .0))
+  first-takes-earliest (a ∷ bs) zero b here = first-takes-both a bs (λ ks. 0 < getD ks 0 0 → (takes-all p b ≡ true) × None-before p (a ∷ bs) 0)
+      (λ takes some. (ap (takes-all p) (here .1) ∙ takes, λ k c early _. absurd (omega arith))) (λ _ some. absurd (omega arith))
+  first-takes-earliest (a ∷ bs) (suc i) b here = first-takes-both a bs (λ ks. 0 < getD ks (suc i) 0 → (takes-all p b ≡ true) × None-before p (a ∷ bs) (suc i))
+      (λ _ some. absurd (omega (arith, getD-nothing bs i)))
+      (λ passed some. let it = first-takes-earliest bs i b (omega (arith, here .0), here .1) some in (it .0, none-before-more a bs i passed (it .1)))
+
+  first-takes-nothing : (bs : List Bid) (i : ℕ) (b : Bid) → Bid-at bs i b → takes-all p b ≡ false → getD (first-takes p bs) i 0 ≡ 0
+  first-takes-nothing bs i b here passed = ⊎-elim
+      (λ some. absurd (both-ways _ passed (first-takes-earliest bs i b here some .0)))
+      (λ none. omega arith)
+      (cases-lt 0 (getD (first-takes p bs) i 0))
 
 -- two lists added
 pub length-plus : (xs ys : List ℕ) → length xs ≡ length ys → length (plus xs ys) ≡ length xs
@@ -122,7 +146,7 @@ abbrev next : Price → Price
 next q = record { 0 = q .0 +ℤ pos 1 }
 
 module _ (w : Whose) (q : Price) where
-  above-and-tied : (bs : List Bid) → all-above w q bs + sumBy (tied w q) bs ≡ demand w q bs
+  above-and-tied : (bs : List Bid) → all-above w q bs + all-tied w q bs ≡ demand w q bs
   above-and-tied [] = refl
   above-and-tied (b ∷ bs) = omega (
     arith,
@@ -143,14 +167,19 @@ module _ (w : Whose) (q : Price) where
     above-is-next bs,
   )
 
-  getD-above-and-tied : (bs : List Bid) (i : ℕ) → getD (map (above w q) bs) i 0 + getD (map (tied w q) bs) i 0 ≤ getD (map (offered w) bs) i 0
-  getD-above-and-tied [] i = omega arith
-  getD-above-and-tied (b ∷ bs) zero = omega (
-    arith,
-    parted (standard-of w b) (q .0) (b .price .0) (b .size .0),
-    cond-and-le (standard-of w b) (leZ (q .0) (b .price .0)) (b .size .0),
-  )
+  getD-above-and-tied : (bs : List Bid) (i : ℕ) → getD (map (above w q) bs) i 0 + getD (map (tied w q) bs) i 0 ≡ getD (map (at-or-better w q) bs) i 0
+  getD-above-and-tied [] i = refl
+  getD-above-and-tied (b ∷ bs) zero = parted (standard-of w b) (q .0) (b .price .0) (b .size .0)
   getD-above-and-tied (b ∷ bs) (suc i) = getD-above-and-tied bs i
+
+-- what each bid has, read at one place
+getD-map-le : (f g : Bid → ℕ) → ((b : Bid) → f b ≤ g b) → (bs : List Bid) (i : ℕ) → getD (map f bs) i 0 ≤ getD (map g bs) i 0
+getD-map-le f g le [] i = omega arith
+getD-map-le f g le (b ∷ bs) zero = le b
+getD-map-le f g le (b ∷ bs) (suc i) = getD-map-le f g le bs i
+
+getD-bid : (f : Bid → ℕ) (bs : List Bid) (i : ℕ) (b : Bid) → Bid-at bs i b → getD (map f bs) i 0 ≡ f b
+getD-bid f bs i b here = getD-map f bs i b 0 (here .0) ∙ ap f (sym (here .1))
 
 module _ (w : Whose) (m : ℕ) (q : Price) (bs : List Bid) where
   length-above : length (map (above w q) bs) ≡ length bs
@@ -183,31 +212,90 @@ module _ (w : Whose) (m : ℕ) (q : Price) (bs : List Bid) where
     pub down-to-sum : total (down-to w m q bs) ≡ m
     down-to-sum = omega (arith, total-plus (map (above w q) bs) tied-shares, sum-map (above w q) bs, total-tied-shares, above-few)
 
-    pub down-to-within : (i : ℕ) → getD (down-to w m q bs) i 0 ≤ getD (map (offered w) bs) i 0
-    down-to-within i = omega (arith, getD-plus (map (above w q) bs) tied-shares i, tied-shares-within i, getD-above-and-tied w q bs i)
+    down-to-at-or-better : (i : ℕ) → getD (down-to w m q bs) i 0 ≤ getD (map (at-or-better w q) bs) i 0
+    down-to-at-or-better i = omega (arith, getD-plus (map (above w q) bs) tied-shares i, tied-shares-within i, getD-above-and-tied w q bs i)
 
-offered-within : (w : Whose) (bs : List Bid) (i : ℕ) → getD (map (offered w) bs) i 0 ≤ getD (map size-of bs) i 0
-offered-within w [] i = omega arith
-offered-within w (b ∷ bs) zero = cond-and-le true (standard-of w b) (b .size .0)
-offered-within w (b ∷ bs) (suc i) = offered-within w bs i
+    pub down-to-within : (i : ℕ) → getD (down-to w m q bs) i 0 ≤ getD (map (offered w) bs) i 0
+    down-to-within i = omega (
+      arith,
+      down-to-at-or-better i,
+      getD-map-le (at-or-better w q) (offered w) (λ b. cond-and-le (standard-of w b) (leZ (q .0) (b .price .0)) (b .size .0)) bs i,
+    )
+
+    down-to-within-size : (i : ℕ) → getD (down-to w m q bs) i 0 ≤ getD (map size-of bs) i 0
+    down-to-within-size i = omega (arith, down-to-within i, getD-map-le (offered w) size-of (λ b. cond-and-le true (standard-of w b) (b .size .0)) bs i)
+
+    module _ (i : ℕ) (b : Bid) (here : Bid-at bs i b) where
+      getD-down-to : getD (down-to w m q bs) i 0 ≡ above w q b + getD tied-shares i 0
+      getD-down-to = omega (arith, getD-plus (map (above w q) bs) tied-shares i, getD-bid (above w q) bs i b here)
+
+      down-to-nothing : (standard-of w b && leZ (q .0) (b .price .0)) ≡ false → getD (down-to w m q bs) i 0 ≡ 0
+      down-to-nothing out = omega (arith, down-to-at-or-better i, getD-bid (at-or-better w q) bs i b here, cond-false _ (b .size .0) 0 out)
+
+      down-to-size : standard-of w b ≡ true → q .0 <ℤ b .price .0 → getD (down-to w m q bs) i 0 ≡ size-of b
+      down-to-size one better =
+          let over : ltZ (q .0) (b .price .0) ≡ true = grind (arith, ints) in
+          omega (arith, getD-down-to, cond-true _ (b .size .0) 0 (and-from _ _ one over), down-to-within-size i, getD-bid size-of bs i b here)
+
+      down-to-near : standard-of w b ≡ true → b .price .0 ≡ q .0 →
+          Within (getD (down-to w m q bs) i 0 * all-tied w q bs) ((m - all-above w q bs) * size-of b) (all-tied w q bs)
+      down-to-near one priced =
+          let ws = map (tied w q) bs in
+          let over : ltZ (q .0) (b .price .0) ≡ false = grind (arith, ints) in
+          let level : same-price q (b .price) ≡ true = grind (arith, ints) in
+          let inside : i < length ws = omega (arith, length-map bs (tied w q), here .0) in
+          let weight : getD ws i 0 ≡ size-of b = getD-bid (tied w q) bs i b here ∙ cond-true _ (b .size .0) 0 (and-from _ _ one level) in
+          let share : getD (down-to w m q bs) i 0 ≡ share-of (m - all-above w q bs) ws i = omega (
+            arith,
+            getD-down-to,
+            cond-false _ (b .size .0) 0 (and-right (standard-of w b) _ over),
+            getD-map-counting (share-of (m - all-above w q bs) ws) 0 (length ws) i i 0 inside (omega arith),
+          ) in
+          rw (share, ← weight, ← sum-map (tied w q) bs) (near (m - all-above w q bs) ws i inside (omega (arith, above-few, rest-within)))
+
+-- by how a lot is cleared
+module _ (bs : List Bid) where
+  allotted-each : (c : Clearing) → length (allotted c bs) ≡ length bs
+  allotted-each Failed = length-map bs (λ b. 0)
+  allotted-each (ByAllOrNothing p) = length-first-takes p bs
+  allotted-each (ByStandard p) = length-down-to Everyone whole p bs
+
+  allotted-sum : (c : Clearing) → clearing bs ≡ c → total (allotted c bs) ≡ cond (isSome (lot-price bs)) whole 0
+  allotted-sum Failed e = rw (failed bs e) (total-nothing bs)
+  allotted-sum (ByAllOrNothing p) e = let prices = by-all-or-nothing bs p e in rw (prices .1) (total-first-takes p bs (prices .0))
+  allotted-sum (ByStandard p) e = let prices = by-standard bs p e in rw (prices .1) (down-to-sum Everyone whole p bs (prices .0) (omega arith))
+
+  allotted-within : All (λ b. is-standard b ≡ false → b .size .0 ≡ whole) bs → (c : Clearing) → clearing bs ≡ c → (i : ℕ) → getD (allotted c bs) i 0 ≤ getD (map size-of bs) i 0
+  allotted-within sized Failed e i = omega (arith, getD-nothing bs i)
+  allotted-within sized (ByAllOrNothing p) e i = first-takes-within p bs sized i
+  allotted-within sized (ByStandard p) e i = down-to-within-size Everyone whole p bs (by-standard bs p e .0) (omega arith) i
+
+  below-is-out : (b : Bid) (p q : Price) → lot-price bs ≡ Some p → lot-price bs ≡ Some q → b .price .0 <ℤ p .0 → leZ (q .0) (b .price .0) ≡ false
+  below-is-out b p q priced found low = let same : q ≡ p = cc in rw same (grind (arith, ints))
+
+  module _ (i : ℕ) (b : Bid) (here : Bid-at bs i b) where
+    allotted-below : (c : Clearing) → clearing bs ≡ c → (p : Price) → lot-price bs ≡ Some p → b .price .0 <ℤ p .0 → getD (allotted c bs) i 0 ≡ 0
+    allotted-below Failed e p priced low = getD-nothing bs i
+    allotted-below (ByAllOrNothing q) e p priced low =
+        first-takes-nothing q bs i b here (and-right _ _ (and-left _ _ (below-is-out b p q priced (by-all-or-nothing bs q e .1) low)))
+    allotted-below (ByStandard q) e p priced low =
+        let prices = by-standard bs q e in
+        down-to-nothing Everyone whole q bs (prices .0) (omega arith) i b here (and-right _ _ (below-is-out b p q priced (prices .1) low))
+
+    allotted-other-kind : (c : Clearing) → clearing bs ≡ c → sets-price c (b .kind) ≡ false → getD (allotted c bs) i 0 ≡ 0
+    allotted-other-kind Failed e other = getD-nothing bs i
+    allotted-other-kind (ByAllOrNothing p) e other = first-takes-nothing p bs i b here (and-left _ _ other)
+    allotted-other-kind (ByStandard p) e other = down-to-nothing Everyone whole p bs (by-standard bs p e .0) (omega arith) i b here (and-left _ _ (and-left _ _ other))
 
 -- where each All or Nothing bid is for the whole lot
 pub allocation-law : (bs : List Bid) → All (λ b. is-standard b ≡ false → b .size .0 ≡ 10000) bs → Allocation-law bs (allocations bs)
-allocation-law bs sized = by (clearing bs) refl
-  where
-    by : (c : Clearing) → clearing bs ≡ c → Allocation-law bs (allotted c bs)
-    by Failed e = record {
-      each = length-map bs (λ b. 0);
-      sum = rw (failed bs e) (total-nothing bs);
-      within = λ i. omega (arith, getD-nothing bs i);
-    }
-    by (ByAllOrNothing p) e =
-        let prices = by-all-or-nothing bs p e in
-        record { each = length-first-takes p bs; sum = rw (prices .1) (total-first-takes p bs (prices .0)); within = first-takes-within p bs sized }
-    by (ByStandard p) e =
-        let prices = by-standard bs p e in
-        record {
-          each = length-down-to Everyone whole p bs;
-          sum = rw (prices .1) (down-to-sum Everyone whole p bs (prices .0) (omega arith));
-          within = λ i. omega (arith, down-to-within Everyone whole p bs (prices .0) (omega arith) i, offered-within Everyone bs i);
-        }
+allocation-law bs sized = record {
+  each = allotted-each bs (clearing bs);
+  sum = allotted-sum bs (clearing bs) refl;
+  within = allotted-within bs sized (clearing bs) refl;
+  below = λ p priced i b here. allotted-below bs i b here (clearing bs) refl p priced;
+  other-kind = λ i b here. allotted-other-kind bs i b here (clearing bs) refl;
+  served = λ p e i b here standard better. rw e (down-to-size Everyone whole p bs (by-standard bs p e .0) (omega arith) i b here (and-from _ _ standard refl) better);
+  near = λ p e i b here standard level. rw e (down-to-near Everyone whole p bs (by-standard bs p e .0) (omega arith) i b here (and-from _ _ standard refl) level);
+  earliest = λ p e i b here some. first-takes-earliest p bs i b here (rw e at some);
+}

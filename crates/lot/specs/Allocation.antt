@@ -2,13 +2,17 @@
 use mathlib.Core.Path.{_≡_}
 use mathlib.Core.Bool.{Bool, true, false, cond, _&&_, not}
 use mathlib.Core.List.{List, [], _∷_, map}
-use Prim.Native.Nat.{ℕ, _+_, _-_, _≤_}
+use Prim.Native.Nat.{ℕ, _+_, _-_, _*_, _≤_, _<_}
 use lib.ListN.{length, getD}
+use lib.Signed.{_<ℤ_}
 use Rattle.std.specs.Options.{isSome}
+use Rattle.std.specs.declared.option.Option.the-variants.{Some}
+use Rattle.share.specs.Laws.{Within}
 use Rattle.share.specs.Rule.{total, shares-of}
-use Rattle.lot.specs.Bids.{whole, is-standard, same-price, asked, all-asked}
+use Rattle.lot.specs.Bids.{whole, standard, is-standard, same-price, asked, all-asked}
 use Rattle.lot.specs.Price.{lot-price, clearing}
 use Rattle.lot.specs.declared.bid.Bid.{Bid}
+use Rattle.lot.specs.declared.bid.Kind.{Kind}
 use Rattle.lot.specs.declared.bid.Level.the-variants.{Above, Exactly}
 use Rattle.lot.specs.declared.bid.Price.{Price}
 use Rattle.lot.specs.declared.bid.Whose.{Whose}
@@ -23,9 +27,12 @@ above w p b = asked w (Above p) b
 abbrev pub tied : Whose → Price → Bid → ℕ
 tied w p b = asked w (Exactly p) b
 
--- the parts of their Standard bids above a price
+-- the parts of their Standard bids above a price, and of those at it
 abbrev pub all-above : Whose → Price → List Bid → ℕ
 all-above w p bs = all-asked w (Above p) bs
+
+abbrev pub all-tied : Whose → Price → List Bid → ℕ
+all-tied w p bs = all-asked w (Exactly p) bs
 
 -- two lists added place by place
 abbrev pub plus : List ℕ → List ℕ → List ℕ
@@ -64,8 +71,36 @@ allocations bs = allotted (clearing bs) bs
 abbrev pub size-of : Bid → ℕ
 size-of b = b .size .0
 
--- each bid has its allocation; they are the whole lot where it has a price and nothing where it has none; none is above its size
+-- b is the bid at place i
+abbrev pub Bid-at : List Bid → ℕ → Bid → Type 0
+Bid-at bs i b = (i < length bs) × (b ≡ getD bs i b)
+
+-- whether it is this kind that sets the price
+abbrev pub sets-price : Clearing → Kind → Bool
+sets-price Failed k = false
+sets-price (ByStandard p) k = standard k
+sets-price (ByAllOrNothing p) k = not (standard k)
+
+-- no All or Nothing bid at a price was entered before place i
+abbrev pub None-before : Price → List Bid → ℕ → Type 0
+None-before p bs i = (k : ℕ) (c : Bid) → k < i → Bid-at bs k c → takes-all p c ≡ false
+
+-- what each bid gets of a lot
 pub record Allocation-law (bs : List Bid) (ks : List ℕ) : Type 0 where
+  -- each bid has its allocation
   pub each : length ks ≡ length bs
+  -- they are the whole lot where it has a price, and nothing where it has none
   pub sum : total ks ≡ cond (isSome (lot-price bs)) whole 0
+  -- no bid gets more than its size
   pub within : (i : ℕ) → getD ks i 0 ≤ getD (map size-of bs) i 0
+  -- a bid below the lot's price gets nothing
+  pub below : (p : Price) → lot-price bs ≡ Some p → (i : ℕ) (b : Bid) → Bid-at bs i b → b .price .0 <ℤ p .0 → getD ks i 0 ≡ 0
+  -- a bid of a kind that does not set the price gets nothing
+  pub other-kind : (i : ℕ) (b : Bid) → Bid-at bs i b → sets-price (clearing bs) (b .kind) ≡ false → getD ks i 0 ≡ 0
+  -- where Standard bids set the price, a Standard bid above it gets its size
+  pub served : (p : Price) → clearing bs ≡ ByStandard p → (i : ℕ) (b : Bid) → Bid-at bs i b → is-standard b ≡ true → p .0 <ℤ b .price .0 → getD ks i 0 ≡ size-of b
+  -- where Standard bids set the price, a Standard bid at it gets its proportion of the rest, less than one part more or less
+  pub near : (p : Price) → clearing bs ≡ ByStandard p → (i : ℕ) (b : Bid) → Bid-at bs i b → is-standard b ≡ true → b .price .0 ≡ p .0 →
+      Within (getD ks i 0 * all-tied Everyone p bs) ((whole - all-above Everyone p bs) * size-of b) (all-tied Everyone p bs)
+  -- where an All or Nothing bid sets the price, what gets anything is the earliest entered All or Nothing bid at it
+  pub earliest : (p : Price) → clearing bs ≡ ByAllOrNothing p → (i : ℕ) (b : Bid) → Bid-at bs i b → 0 < getD ks i 0 → (takes-all p b ≡ true) × None-before p bs i

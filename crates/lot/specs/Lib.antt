@@ -4,6 +4,7 @@ pub mod Average
 pub mod Bids
 pub mod Class
 pub mod Entering
+pub mod Figures
 pub mod Lots
 pub mod Price
 pub mod Ranges

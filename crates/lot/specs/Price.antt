@@ -72,6 +72,12 @@ cleared (Some s) (Some a) = cond (ltZ (a .0) (s .0)) (ByStandard s) (ByAllOrNoth
 abbrev pub clearing : List Bid → Clearing
 clearing bs = cleared (standard-price bs) (all-or-nothing-price Everyone bs)
 
+-- the price at which a lot is cleared
+abbrev pub price-of : Clearing → Option Price
+price-of Failed = None
+price-of (ByStandard p) = Some p
+price-of (ByAllOrNothing p) = Some p
+
 -- a price sells the lot: the Standard bids at it or better are for the whole lot or more, or an All or Nothing bid is at it or better
 abbrev pub Sells : List Bid → Price → Type 0
 Sells bs p = (whole ≤ demand Everyone p bs) ⊎ ((b : Bid) × Has bs b × (is-standard b ≡ false) × (p .0 ≤ℤ b .price .0))

@@ -52,7 +52,7 @@ impl Level {
 
 impl Whose {
     // Whether a bid is one of those that are meant.
-    pub fn has(self, bid: &Bid) -> bool
+    pub(crate) fn has(self, bid: &Bid) -> bool
         ensures { λ r. ⌜ r ≡ is-of self (now (bid .entry)) ⌝ }
     {
         match self {
@@ -62,7 +62,7 @@ impl Whose {
     }
 
     // The parts that a bid asks for: its size if it is a Standard bid of theirs at a price that is meant.
-    pub fn asked(self, level: Level, bid: &Bid) -> u32
+    pub(crate) fn asked(self, level: Level, bid: &Bid) -> u32
         ensures { λ r. ⌜ r ≡ asked self level (now (bid .entry)) ⌝ }
     {
         if bid.is_standard() && self.has(bid) && level.meets(bid.price) {
@@ -73,7 +73,7 @@ impl Whose {
     }
 
     // Whether a bid is an All or Nothing bid of theirs.
-    pub fn has_all_or_nothing(self, bid: &Bid) -> bool
+    pub(crate) fn has_all_or_nothing(self, bid: &Bid) -> bool
         ensures { λ r. ⌜ r ≡ all-or-nothing-of self (now (bid .entry)) ⌝ }
     {
         !bid.is_standard() && self.has(bid)
@@ -81,7 +81,7 @@ impl Whose {
 }
 
 impl Bid {
-    pub fn is_standard(&self) -> bool
+    pub(crate) fn is_standard(&self) -> bool
         ensures { λ r. ⌜ r ≡ is-standard (now (self .entry)) ⌝ }
     {
         match self.kind {

@@ -3,4 +3,7 @@ pub mod allocations;
 pub mod bid;
 pub mod bids;
 pub mod class;
+pub mod figures;
 pub mod pri;
+#[cfg(test)]
+mod tests;

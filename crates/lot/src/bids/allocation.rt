@@ -38,9 +38,9 @@ impl Bids {
     {
         let bids = self.entries();
         let mut parts = [Parts(0); 64];
-        for (i, bid) in bids.iter().enumerate() {
+        for (place, bid) in bids.iter().enumerate() {
             if bid.takes_all(price) {
-                parts[i] = Parts(WHOLE);
+                parts[place] = Parts(WHOLE);
                 return parts;
             }
         }

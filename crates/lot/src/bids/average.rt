@@ -3,8 +3,10 @@ ghost use Prim.Native.Nat.{_<_};
 ghost use Rattle.lot.specs.Average.{worth-above, all-worth-above, worth-down-to, average, averaged, best-price, Average-law};
 ghost use Rattle.lot.specs.Lots.{entries-of};
 ghost use Rattle.lot.specs.Price.{reached};
+ghost use Rattle.std.specs.Numbers.{divEuclid};
 ghost use Rattle.lot.specs.declared.bid.Whose.the-variants.{One};
 ghost use Rattle.std.specs.declared.option.Option.the-variants.{Some};
+ghost use lib.IntN.{pos};
 ghost use mathlib.Core.Path.{_≡_};
 use super::Bids;
 use super::price::better;
@@ -13,6 +15,14 @@ use crate::bid::Level;
 use crate::bid::Price;
 use crate::bid::Whose;
 use share::units::Parts;
+
+// A sum over some parts divided by their number, rounded down toward minus infinity.
+fn mean(worth: i64, parts: u32) -> i64
+    requires { ⌜ 0 < parts ⌝ }
+    ensures { λ r. ⌜ r ≡ divEuclid worth (pos parts) ⌝ }
+{
+    worth.div_euclid(i64::from(parts))
+}
 
 impl Whose {
     // Price × parts of a bid that is above a price.
@@ -55,7 +65,7 @@ impl Bids {
             return None;
         };
         let worth = self.worth_down_to(whose, parts, last);
-        Some(Price(worth.div_euclid(i64::from(parts)) as i32))
+        Some(Price(mean(worth, parts) as i32))
     }
 
     // A member's BP for a requirement: the greater of its average and the price of its All or Nothing bid, of those that count.

@@ -1,7 +1,7 @@
 // The price of a lot.
 ghost use Rattle.lot.specs.Lots.{entries-of};
 ghost use Rattle.lot.specs.Bids.{all-asked};
-ghost use Rattle.lot.specs.Price.{better, price-if, reaches, reached, all-or-nothing-price, clearing, lot-price, Price-law};
+ghost use Rattle.lot.specs.Price.{better, price-if, reaches, reached, all-or-nothing-price, clearing, price-of, lot-price, Price-law};
 ghost use mathlib.Core.Path.{_≡_};
 use super::Bids;
 use super::entering::WHOLE;
@@ -18,8 +18,20 @@ pub enum Clearing {
     ByAllOrNothing(Price),
 }
 
+impl Clearing {
+    // The price at which the lot is cleared; none where it fails.
+    pub fn price(self) -> Option<Price>
+        ensures { λ r. ⌜ r ≡ price-of self ⌝ }
+    {
+        match self {
+            Clearing::Failed => None,
+            Clearing::ByStandard(price) | Clearing::ByAllOrNothing(price) => Some(price),
+        }
+    }
+}
+
 // The greater of two prices, where both are there.
-pub fn better(a: Option<Price>, b: Option<Price>) -> Option<Price>
+pub(crate) fn better(a: Option<Price>, b: Option<Price>) -> Option<Price>
     ensures { λ r. ⌜ r ≡ better a b ⌝ }
 {
     let Some(p) = a else {
@@ -40,7 +52,7 @@ fn price_if(passes: bool, bid: &Bid) -> Option<Price>
 
 impl Bids {
     // The parts that their Standard bids ask for at the prices that are meant.
-    pub fn asked(&self, whose: Whose, level: Level) -> u32
+    pub(crate) fn asked(&self, whose: Whose, level: Level) -> u32
         ensures { λ r. ⌜ r ≡ all-asked whose level (entries-of (now (self .entry))) ⌝ }
     {
         let mut parts = 0;
@@ -60,7 +72,7 @@ impl Bids {
     }
 
     // The greatest price of their Standard bids at which these reach a number of parts.
-    pub fn reached(&self, whose: Whose, parts: u32) -> Option<Price>
+    pub(crate) fn reached(&self, whose: Whose, parts: u32) -> Option<Price>
         ensures { λ r. ⌜ r ≡ reached whose parts (entries-of (now (self .entry))) ⌝ }
     {
         let mut best = None;
@@ -71,7 +83,7 @@ impl Bids {
     }
 
     // The greatest price of their All or Nothing bids.
-    pub fn all_or_nothing_price(&self, whose: Whose) -> Option<Price>
+    pub(crate) fn all_or_nothing_price(&self, whose: Whose) -> Option<Price>
         ensures { λ r. ⌜ r ≡ all-or-nothing-price whose (entries-of (now (self .entry))) ⌝ }
     {
         let mut best = None;
@@ -83,23 +95,22 @@ impl Bids {
 
     // How the lot is cleared.
     pub fn clearing(&self) -> Clearing
-        ensures { λ r. ⌜ r ≡ clearing (entries-of (now (self .entry))) ⌝ }
+        ensures value { λ r. ⌜ r ≡ clearing (entries-of (now (self .entry))) ⌝ }
+        ensures price { λ r. ⌜ price-of r ≡ lot-price (entries-of (now (self .entry))) ⌝ }
     {
         let standard = self.reached(Whose::Everyone, WHOLE);
         let all = self.all_or_nothing_price(Whose::Everyone);
-        let Some(a) = all else {
-            let Some(s) = standard else {
-                return Clearing::Failed;
-            };
-            return Clearing::ByStandard(s);
-        };
-        let Some(s) = standard else {
-            return Clearing::ByAllOrNothing(a);
-        };
-        if a.0 < s.0 {
-            Clearing::ByStandard(s)
-        } else {
-            Clearing::ByAllOrNothing(a)
+        match (standard, all) {
+            (None, None) => Clearing::Failed,
+            (Some(s), None) => Clearing::ByStandard(s),
+            (None, Some(a)) => Clearing::ByAllOrNothing(a),
+            (Some(s), Some(a)) => {
+                if a.0 < s.0 {
+                    Clearing::ByStandard(s)
+                } else {
+                    Clearing::ByAllOrNothing(a)
+                }
+            }
         }
     }
 
@@ -108,9 +119,6 @@ impl Bids {
         ensures value { λ r. ⌜ r ≡ lot-price (entries-of (now (self .entry))) ⌝ }
         ensures law { λ r. ⌜ Price-law (entries-of (now (self .entry))) r ⌝ }
     {
-        better(
-            self.reached(Whose::Everyone, WHOLE),
-            self.all_or_nothing_price(Whose::Everyone),
-        )
+        self.clearing().price()
     }
 }

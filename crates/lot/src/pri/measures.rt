@@ -39,7 +39,7 @@ impl Pri {
     pub fn subordinate_threshold(self, price: Price) -> i64
         ensures { λ r. ⌜ r ≡ subordinate-threshold (price .0) (pri-of self) ⌝ }
     {
-        i64::from(price.0) - i64::from(self.dollars / 2) - i64::from(self.dollars)
+        self.senior_threshold(price) - i64::from(self.dollars)
     }
 
     // The class of a member with a requirement and perhaps a BP, in a lot at a price.

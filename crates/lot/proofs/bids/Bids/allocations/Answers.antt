@@ -18,9 +18,9 @@ returns c =
     let bs = entries-of lot in
     let given : List Parts → List ℕ = λ ps. numbers (take (lot .count) ps) in
     let each : numbers (take (lot .count) (c .match-clearing .parts)) ≡ allocations bs = elim (c .match-clearing .came) [
-      | in-Failed w ↦ ap given (w .parts-is) ∙ nothing-at lot ∙ ap (λ k. allotted k bs) (w .in-Failed .ensures tt)
-      | in-ByStandard w ↦ ap given (w .parts-is) ∙ w .down-to-parts .ensures .value ∙ ap (λ k. allotted k bs) (w .in-ByStandard .ensures tt)
-      | in-ByAllOrNothing w ↦ ap given (w .parts-is) ∙ w .first-takes-parts .ensures .value ∙ ap (λ k. allotted k bs) (w .in-ByAllOrNothing .ensures tt)
+      | in-Failed w ↦ ap given (w .parts-is) ∙ nothing-at lot ∙ ap (λ k. allotted k bs) (w .in-Failed .ensures tt .value)
+      | in-ByStandard w ↦ ap given (w .parts-is) ∙ w .down-to-parts .ensures .value ∙ ap (λ k. allotted k bs) (w .in-ByStandard .ensures tt .value)
+      | in-ByAllOrNothing w ↦ ap given (w .parts-is) ∙ w .first-takes-parts .ensures .value ∙ ap (λ k. allotted k bs) (w .in-ByAllOrNothing .ensures tt .value)
     ] in
     let value = c .first .ensures ∙ each in
     record { value = value; law = subst (Allocation-law bs) (sym value) (allocation-law bs (entries-whole lot)) }

@@ -1,6 +1,6 @@
-use mathlib.Core.Path.{_≡_, sym, ap, ap₂, subst, _∙_}
+use mathlib.Core.Path.{_≡_, sym, ap, subst, _∙_}
 use borrow.Author.Needs.{needs}
-use lib.IntN.{ℤ}
+use lib.IntN.{ℤ, pos}
 use mir.Syntax.{w32, w64}
 use mir.Val.{SFits, toZ, ofZ}
 use Rattle.std.proofs.shelf.Signed.{toZ-ofZ}
@@ -17,23 +17,21 @@ use Rattle.lot.proofs.Worths.{average-small}
 use Rattle.lot.proofs.bids.Bids.average.Needs as need
 
 -- the price at which the bids reach the parts
-last-is : (c : need.After-div-euclid) → reached (c .args .whose) (c .args .parts) (entries-of (c .args .self .now)) ≡ Some (c .in-Some .last)
+last-is : (c : need.After-mean) → reached (c .args .whose) (c .args .parts) (entries-of (c .args .self .now)) ≡ Some (c .in-Some .last)
 last-is c = sym (c .in-Some .ensures tt)
 
 -- the quotient, and that it fits a price
-quotient : (c : need.After-div-euclid) → c .div-euclid .result ≡ floor (worth-down-to (c .args .whose) (c .args .parts) (entries-of (c .args .self .now)) (c .in-Some .last)) (c .args .parts)
+quotient : (c : need.After-mean) → c .mean .result ≡ floor (worth-down-to (c .args .whose) (c .args .parts) (entries-of (c .args .self .now)) (c .in-Some .last)) (c .args .parts)
 quotient c =
-    c .div-euclid .ensures
-    ∙ ap₂ divEuclid
-    (toZ-ofZ w64 _ (record { sfits = c .worth-down-to-worth .ok }) ∙ c .worth-down-to-worth .ensures)
-    (toZ-ofZ w64 _ (record { sfits = c .from .ok }) ∙ c .from .ensures)
+    c .mean .ensures
+    ∙ ap (λ z. divEuclid z (pos (c .args .parts))) (toZ-ofZ w64 _ (record { sfits = c .worth-down-to-worth .ok }) ∙ c .worth-down-to-worth .ensures)
     ∙ floor-is _ (c .args .parts)
 
-quotient-fits : (c : need.After-div-euclid) → SFits w32 (floor (worth-down-to (c .args .whose) (c .args .parts) (entries-of (c .args .self .now)) (c .in-Some .last)) (c .args .parts))
+quotient-fits : (c : need.After-mean) → SFits w32 (floor (worth-down-to (c .args .whose) (c .args .parts) (entries-of (c .args .self .now)) (c .in-Some .last)) (c .args .parts))
 quotient-fits c = fits-32 _ (average-small (c .args .whose) (c .args .parts) (c .args .self .now) (c .in-Some .last) (c .pre) (last-is c))
 
-read : (c : need.After-div-euclid) → toZ w64 (ofZ w64 (c .div-euclid .result)) ≡ floor (worth-down-to (c .args .whose) (c .args .parts) (entries-of (c .args .self .now)) (c .in-Some .last)) (c .args .parts)
-read c = toZ-ofZ w64 _ (record { sfits = c .div-euclid .ok }) ∙ quotient c
+read : (c : need.After-mean) → toZ w64 (ofZ w64 (c .mean .result)) ≡ floor (worth-down-to (c .args .whose) (c .args .parts) (entries-of (c .args .self .now)) (c .in-Some .last)) (c .args .parts)
+read c = toZ-ofZ w64 _ (record { sfits = c .mean .ok }) ∙ quotient c
 
 pub cast-result : need.cast-result
 cast-result c = rw (read c) (quotient-fits c)

@@ -1,8 +1,7 @@
-use mathlib.Core.Path.{_≡_, refl, sym, ap, _∙_}
+use mathlib.Core.Path.{_≡_, sym, ap, _∙_}
 use native.Mathlib.Omega.{arith}
 use Prim.Native.Nat.{_≤_}
 use lib.ListN.{length, set, take}
-use borrow.Author.Count.{below-more}
 use Rattle.std.proofs.shelf.Lists.{length-set}
 use Rattle.lot.specs.Allocation.{first-takes}
 use Rattle.lot.specs.Allotments.{numbers}
@@ -16,11 +15,11 @@ returns-then-takes-all c =
     let few : length bs ≤ 64 = omega (arith, c .args .self .now .few) in
     record {
       value =
-          ap (λ n. numbers (take n (set (c .loop-i .parts) (c .loop-i .i) (record { 0 = 10000 })))) (sym long)
-          ∙ ap (λ ps. numbers (take (length bs) (set ps (c .loop-i .i) (record { 0 = 10000 })))) (c .loop-i .inv .0)
-          ∙ one-takes (c .args .price) bs 64 (c .loop-i .i) few (c .loop-i-test .taken) (c .loop-i .inv .1) (sym (c .if-takes-all .ensures tt))
+          ap (λ n. numbers (take n (set (c .loop-place .parts) (c .loop-place .place) (record { 0 = 10000 })))) (sym long)
+          ∙ ap (λ ps. numbers (take (length bs) (set ps (c .loop-place .place) (record { 0 = 10000 })))) (c .loop-place .inv .0)
+          ∙ one-takes (c .args .price) bs 64 (c .loop-place .place) few (c .loop-place-test .taken) (c .loop-place .inv .1) (sym (c .if-takes-all .ensures tt))
           ∙ ap (first-takes (c .args .price)) (c .entries-bids .ensures);
-      len = length-set (c .loop-i .parts) (c .loop-i .i) _ ∙ ap length (c .loop-i .inv .0);
+      len = length-set (c .loop-place .parts) (c .loop-place .place) _ ∙ ap length (c .loop-place .inv .0);
     }
 
 pub returns : need.returns
@@ -30,9 +29,9 @@ returns c =
     let few : length bs ≤ 64 = omega (arith, c .args .self .now .few) in
     record {
       value =
-          ap (λ n. numbers (take n (c .loop-i .parts))) (sym long)
-          ∙ ap (λ ps. numbers (take (length bs) ps)) (c .loop-i .inv .0)
-          ∙ none-takes (c .args .price) bs 64 few (λ k h. c .loop-i .inv .1 k (omega arith))
+          ap (λ n. numbers (take n (c .loop-place .parts))) (sym long)
+          ∙ ap (λ ps. numbers (take (length bs) ps)) (c .loop-place .inv .0)
+          ∙ none-takes (c .args .price) bs 64 few (λ k h. c .loop-place .inv .1 k (omega arith))
           ∙ ap (first-takes (c .args .price)) (c .entries-bids .ensures);
-      len = ap length (c .loop-i .inv .0);
+      len = ap length (c .loop-place .inv .0);
     }

@@ -7,5 +7,5 @@ use Rattle.lot.proofs.Filled.{no-parts}
 use Rattle.lot.proofs.Steps.{no-bid}
 use Rattle.lot.proofs.bids.Bids.first_takes.Given as given
 
-abbrev pub Inv-loop-i : given.InvT-loop-i
-Inv-loop-i l = (l .parts ≡ replicate 64 no-parts) × ((k : ℕ) → k < l .i → takes-all (l .price) (getD (l .bids) k no-bid) ≡ false)
+abbrev pub Inv-loop-place : given.InvT-loop-place
+Inv-loop-place l = (l .parts ≡ replicate 64 no-parts) × ((k : ℕ) → k < l .place → takes-all (l .price) (getD (l .bids) k no-bid) ≡ false)
