@@ -6,11 +6,11 @@ import sys
 from rules import Bid, all_takes_lot, allocations, lot_price, refusal
 
 REFUSED = {
-    2: "a member is 1 to 32",
-    5: "a size is 1 to 10000 and a price -2000000000 to 2000000000",
-    7: "an All or Nothing bid is for 10000 parts",
-    8: "the member has an All or Nothing bid in the lot",
-    9: "the lot holds 64 bids",
+    2: "number out of range",
+    5: "amount outside its limits",
+    7: "All or Nothing bid not for the whole lot",
+    8: "second All or Nothing bid in the lot",
+    9: "lot full",
 }
 
 

@@ -1,5 +1,5 @@
 // Why something is declined. Each case has a number, which `number` in specs/Refusals.antt defines.
-ghost use Rattle.share.specs.Refusals.{number};
+ghost use Rattle.share.specs.Refusals.{number, reason-of};
 ghost use mathlib.Core.Path.{_≡_};
 
 #[derive(Clone, Copy, PartialEq, Eq, Debug)]
@@ -30,6 +30,20 @@ impl Refusal {
             Refusal::AllOrNothingSize => 7,
             Refusal::SecondAllOrNothing => 8,
             Refusal::LotFull => 9,
+        }
+    }
+
+    // The reason in words.
+    pub fn reason(self) -> &'static str
+        ensures { λ r. ⌜ now r ≡ reason-of self ⌝ }
+    {
+        match self {
+            Refusal::OutOfRange => "number out of range",
+            Refusal::OutsideLimits => "amount outside its limits",
+            Refusal::LotTerms => "lots not as they must be",
+            Refusal::AllOrNothingSize => "All or Nothing bid not for the whole lot",
+            Refusal::SecondAllOrNothing => "second All or Nothing bid in the lot",
+            Refusal::LotFull => "lot full",
         }
     }
 }

@@ -6,7 +6,6 @@ ghost use lib.ListN.{length};
 ghost use mathlib.Core.List.{map};
 ghost use mathlib.Core.Path.{_≡_};
 use crate::units::Dollars;
-use crate::units::Parts;
 
 // What has a weight: `heft` is the number that it weighs.
 pub trait Weighted {
@@ -21,14 +20,6 @@ pub impl Weighted for Dollars as DollarsWeighted {
 
     fn weight(&self) -> u64 {
         self.0
-    }
-}
-
-pub impl Weighted for Parts as PartsWeighted {
-    ghost heft = { λ p. p .0 };
-
-    fn weight(&self) -> u64 {
-        u64::from(self.0)
     }
 }
 
