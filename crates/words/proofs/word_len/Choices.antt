@@ -1,0 +1,10 @@
+use mathlib.Core.Path.{_≡_}
+use Prim.Native.Nat.{_+_}
+use lib.ListN.{drop}
+use Rattle.std.specs.shelf.Lists.{leading}
+use Rattle.words.specs.Words.{solid}
+use Rattle.words.proofs.word_len.Given as given
+
+-- what is left has the rest of them
+abbrev pub Inv-loop-i : given.InvT-loop-i
+Inv-loop-i l = l .i + leading solid (drop (l .i) (l .line)) ≡ leading solid (l .line)
