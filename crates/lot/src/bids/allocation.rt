@@ -38,8 +38,8 @@ impl Bids {
     {
         let bids = self.entries();
         let mut parts = [Parts(0); 64];
-        for (place, bid) in bids.iter().enumerate() {
-            if bid.takes_all(price) {
+        for place in 0..bids.len() {
+            if bids[place].takes_all(price) {
                 parts[place] = Parts(WHOLE);
                 return parts;
             }
