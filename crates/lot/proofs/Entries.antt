@@ -12,17 +12,14 @@ use Rattle.std.proofs.shelf.Ways.{tells}
 use Rattle.std.specs.declared.result.Result.{Result}
 use Rattle.std.specs.declared.result.Result.the-variants.{Ok, Err}
 use Rattle.lot.proofs.Taken.{taken-push}
-use Rattle.lot.specs.Entering.{refusal, taken-after, unless, entered}
+use Rattle.share.proofs.Answered.{unless-ok}
+use Rattle.share.specs.Refusals.{unless}
+use Rattle.lot.specs.Entering.{refusal, taken-after, entered}
 use Rattle.lot.specs.Lots.{entries-of}
 use Rattle.lot.specs.declared.bid.Bid.{Bid}
 use Rattle.lot.specs.declared.bids.Bids.{Bids}
 
--- a refusal is the same whatever would have been answered
-pub unless-err : {T : Type 0} (n k : ℕ) (x : T) → Err k ≡ unless {T = Unit {0}} n tt → Err k ≡ unless n x
-unless-err zero k x e = let z : _≡_ {A = ℕ} 0 1 = cc in absurd (omega arith)
-unless-err (suc n) k x e = let h : k ≡ suc n = cc in ap Err h
-
--- and leaves the bids as they were
+-- a refusal leaves the bids as they were
 pub entered-err : (bs : List Bid) (b : Bid) (k : ℕ) → Err k ≡ unless {T = Unit {0}} (refusal bs b) tt → bs ≡ entered bs b
 entered-err bs b k = go (refusal bs b)
   where
@@ -30,14 +27,10 @@ entered-err bs b k = go (refusal bs b)
     go zero e = let z : _≡_ {A = ℕ} 0 1 = cc in absurd (omega arith)
     go (suc n) e = rw (ne-eqb (suc n) 0 (λ z. omega arith))
 
-unless-ok : (n : ℕ) → Ok tt ≡ unless {T = Unit {0}} n tt → n ≡ 0
-unless-ok zero e = refl
-unless-ok (suc n) e = let z : _≡_ {A = ℕ} 0 1 = cc in absurd (omega arith)
-
 -- a bid that is taken
 module _ (lot : Bids) (b : Bid) (ok : Ok tt ≡ unless {T = Unit {0}} (refusal (entries-of lot) b) tt) where
   taken-is : refusal (entries-of lot) b ≡ 0
-  taken-is = unless-ok (refusal (entries-of lot) b) ok
+  taken-is = unless-ok (refusal (entries-of lot) b) tt tt ok .0
 
   pub room-left : lot .count < 64
   room-left = let long : length (entries-of lot) ≡ lot .count = simp length-take (omega (arith, lot .few, lot .long)) in let none = taken-is in grind (arith, tells)

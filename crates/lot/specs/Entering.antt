@@ -52,11 +52,6 @@ abbrev pub taken-after : List Bid → List Bid → Bool
 taken-after before [] = true
 taken-after before (b ∷ bs) = eqb (refusal before b) 0 && taken-after (before ++ b ∷ []) bs
 
--- an answer by the number of a refusal, which is 0 where there is none
-abbrev pub unless : {T : Type 0} → ℕ → T → Result T ℕ
-unless zero x = Ok x
-unless (suc n) x = Err (suc n)
-
 -- the bids of a lot after one has come
 abbrev pub entered : List Bid → Bid → List Bid
 entered bs b = cond (eqb (refusal bs b) 0) (bs ++ b ∷ []) bs

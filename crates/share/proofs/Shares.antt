@@ -12,7 +12,7 @@ use Rattle.std.proofs.shelf.Lists.{take-all, take-take, getD-map, length-map, t
 use Rattle.std.proofs.shelf.Sums.{sumBy-more, sumBy-take-le}
 use Rattle.std.proofs.shelf.Counted.{sumBy-map-counting-more}
 use Rattle.std.proofs.shelf.Tests.{cases-lt}
-use Rattle.share.specs.Rule.{total, upto, share-of, shares-of}
+use Rattle.share.specs.Rule.{total, upto, share-of, shares-of, left-of, lowered}
 use Rattle.share.specs.Laws.{Within, Share-law}
 use Rattle.share.proofs.Divided.{div-mono, div-near, div-step}
 
@@ -94,5 +94,28 @@ adds-up-within a ws small =
           omega (arith, shares-upto a ws (length ws))
     ]
 
+-- what is left of the first n weights
+lowered-upto : (a : ℕ) (ws : List ℕ) → a ≤ total ws → (n : ℕ) → n ≤ length ws → total (map (left-of a ws) (counting 0 n)) + upto a ws n ≡ total (take n ws)
+lowered-upto a ws small zero h =
+    let none = upto-none a ws in
+    omega arith
+lowered-upto a ws small (suc n) h =
+    let step = sumBy-map-counting-more (λ x. x) (left-of a ws) 0 n n (zero-add n) in
+    let before = lowered-upto a ws small n (omega arith) in
+    let more = upto-mono a ws n (n + 1) (omega arith) in
+    let weight = total-more ws n (omega arith) in
+    let within = within-weight a ws n (omega arith) small in
+    let next : total (map (left-of a ws) (counting 0 (n + 1))) + upto a ws (n + 1) ≡ total (take (n + 1) ws) = omega arith in
+    subst (λ k. total (map (left-of a ws) (counting 0 k)) + upto a ws k ≡ total (take k ws)) (add-one n) next
+
+-- what is left of the weights comes to what the amount leaves of their sum
+pub lowers : (a : ℕ) (ws : List ℕ) → a ≤ total ws → total (lowered a ws) ≡ total ws - a
+lowers a ws small =
+    let all = lowered-upto a ws small (length ws) (omega arith) in
+    let shared = shares-upto a ws (length ws) in
+    let whole = adds-up-within a ws small in
+    let taken : total (take (length ws) ws) ≡ total ws = ap total (take-all (length ws) ws (omega arith)) in
+    omega arith
+
 pub share-law : Share-law
-share-law = record { adds-up = adds-up; near = near; within = within-weight; none = nothing }
+share-law = record { adds-up = adds-up; near = near; within = within-weight; none = nothing; adds-up-within = adds-up-within; lowers = lowers }

@@ -4,9 +4,15 @@ ghost use mathlib.Core.Path.{_≡_};
 
 #[derive(Clone, Copy, PartialEq, Eq, Debug)]
 pub enum Refusal {
-    // a number names nothing: a member outside 1 to 32
+    // the call or question does not belong to the phase
+    WrongPhase,
+    // a number names nothing: a member outside 1 to 32, a payer that a pool has not
     OutOfRange,
-    // an amount, a size or a price is outside its limits
+    // the member is not enrolled
+    NotEnrolled,
+    // the member to enrol is enrolled
+    AlreadyEnrolled,
+    // an amount, a size, a price or a count is outside its limits
     OutsideLimits,
     // a lot's terms are not as they must be
     LotTerms,
@@ -16,6 +22,10 @@ pub enum Refusal {
     SecondAllOrNothing,
     // the lot holds as many bids as it can
     LotFull,
+    // a call has excused the member from the lot
+    ExcusedByCall,
+    // a resource is to stand above its capacity
+    AboveCapacity,
 }
 
 impl Refusal {
@@ -24,12 +34,17 @@ impl Refusal {
         ensures { λ r. ⌜ r ≡ number self ⌝ }
     {
         match self {
+            Refusal::WrongPhase => 1,
             Refusal::OutOfRange => 2,
+            Refusal::NotEnrolled => 3,
+            Refusal::AlreadyEnrolled => 4,
             Refusal::OutsideLimits => 5,
             Refusal::LotTerms => 6,
             Refusal::AllOrNothingSize => 7,
             Refusal::SecondAllOrNothing => 8,
             Refusal::LotFull => 9,
+            Refusal::ExcusedByCall => 10,
+            Refusal::AboveCapacity => 11,
         }
     }
 
@@ -38,12 +53,17 @@ impl Refusal {
         ensures { λ r. ⌜ now r ≡ reason-of self ⌝ }
     {
         match self {
+            Refusal::WrongPhase => "wrong phase",
             Refusal::OutOfRange => "number out of range",
+            Refusal::NotEnrolled => "not enrolled",
+            Refusal::AlreadyEnrolled => "already enrolled",
             Refusal::OutsideLimits => "amount outside its limits",
             Refusal::LotTerms => "lots not as they must be",
             Refusal::AllOrNothingSize => "All or Nothing bid not for the whole lot",
             Refusal::SecondAllOrNothing => "second All or Nothing bid in the lot",
             Refusal::LotFull => "lot full",
+            Refusal::ExcusedByCall => "excused by a call",
+            Refusal::AboveCapacity => "above capacity",
         }
     }
 }

@@ -1,8 +1,8 @@
 // Which bids a lot takes.
 ghost use Prim.Native.Nat.{_+_};
-ghost use Rattle.lot.specs.Entering.{refusal, unless, entered};
+ghost use Rattle.lot.specs.Entering.{refusal, entered};
 ghost use Rattle.lot.specs.Lots.{entries-of};
-ghost use Rattle.share.specs.Refusals.{numbered};
+ghost use Rattle.share.specs.Refusals.{numbered, unless};
 ghost use lib.ListN.{length};
 ghost use mathlib.Core.List.{[]};
 ghost use mathlib.Core.Path.{_≡_};

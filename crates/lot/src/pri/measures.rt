@@ -1,10 +1,9 @@
 // What a member's BP is measured by: its distance from the lot's price, in the lot's price range.
 ghost use Prim.Native.Nat.{_+_, _≤_};
 ghost use Rattle.lot.specs.Class.{pri-refusal, senior-threshold, subordinate-threshold, by-price, class-of, split-part, senior-part};
-ghost use Rattle.lot.specs.Entering.{unless};
 ghost use Rattle.lot.specs.Ranges.{pri-of, dollars-of};
 ghost use Rattle.lot.specs.declared.class.Class.the-variants.{Split};
-ghost use Rattle.share.specs.Refusals.{numbered};
+ghost use Rattle.share.specs.Refusals.{numbered, unless};
 ghost use Rattle.std.specs.declared.option.Option.the-variants.{Some};
 ghost use mathlib.Core.Path.{_≡_};
 use super::Pri;

@@ -1,14 +1,15 @@
 use native.Mathlib.Omega.{arith}
 use Rattle.std.proofs.shelf.Lists.{length-set}
 use Rattle.std.proofs.shelf.Results.{err-from-errBy}
-use Rattle.lot.proofs.Entries.{unless-err, entered-err, room-left, next-taken, next-entered, next-number}
+use Rattle.share.proofs.Answered.{unless-err}
+use Rattle.lot.proofs.Entries.{entered-err, room-left, next-taken, next-entered, next-number}
 use Rattle.lot.proofs.bids.Bids.enter.Needs as need
 
 pub returns-in-Break-admits : need.returns-in-Break-admits
 returns-in-Break-admits c =
     let e = c .in-Break-admits .ensures tt in
     let p = err-from-errBy (c .from-residual .result) (c .from-residual .ensures .1) in
-    record { answer = rw (p .1, p .2) (unless-err _ _ _ e); after = entered-err _ (c .args .bid) _ e }
+    record { answer = rw (p .1, p .2) (unless-err _ _ tt _ e); after = entered-err _ (c .args .bid) _ e }
 
 pub ghost-self : need.ghost-self
 ghost-self c =

@@ -1,0 +1,4 @@
+pub mod Deposits
+pub mod Meaning
+pub mod Payers
+pub mod Pools
