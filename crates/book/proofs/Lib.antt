@@ -1,0 +1,6 @@
+pub mod Bounds
+pub mod Free
+pub mod Histories
+pub mod Seating
+pub mod Steps
+pub mod Sums

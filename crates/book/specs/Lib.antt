@@ -1,0 +1,13 @@
+pub mod Bounds
+pub mod Calls
+pub mod Figures
+pub mod Law
+pub mod Lived
+pub mod Lives
+pub mod Money
+pub mod Next
+pub mod Questions
+pub mod Refusals
+pub mod Runs
+pub mod Standing
+pub mod State
