@@ -1,5 +1,6 @@
 // What a pool does.
 ghost use Prim.Native.Nat.{ℕ, _-_, _<_};
+ghost use Rattle.resource.specs.Meaning.{stand-refusal, stood-at};
 ghost use Rattle.resource.specs.Payers.{weights-of, pool-refusal};
 ghost use Rattle.resource.specs.Pools.{payers-of, capacity-of, standing-of, payer-refusal, dollars-in, fresh, as-made, Pool-law};
 ghost use Rattle.share.specs.Refusals.{numbered, unless};
@@ -104,7 +105,12 @@ pub impl Resource for Pool as PoolResource {
         self.standing
     }
 
-    fn stand_at(&mut self, n: Dollars) -> Result<(), Refusal> {
+    fn stand_at(&mut self, n: Dollars) -> Result<(), Refusal>
+        ensures answer { λ r. ⌜ numbered r ≡ unless (stand-refusal (capacity-of (now (self .entry))) (n .0)) tt ⌝ }
+        ensures after { λ _. ⌜ standing-of (now (self .exit)) ≡ stood-at (capacity-of (now (self .entry))) (standing-of (now (self .entry))) (n .0) ⌝ }
+        ensures same { λ _. ⌜ capacity-of (now (self .exit)) ≡ capacity-of (now (self .entry)) ⌝ }
+        ensures each { λ _. ⌜ payers-of (now (self .exit)) ≡ payers-of (now (self .entry)) ⌝ }
+    {
         if n.0 > self.capacity().0 {
             return Err(Refusal::AboveCapacity);
         }
