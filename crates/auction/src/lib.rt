@@ -1,4 +1,6 @@
 // An auction: its members and lots, what each member must bid for, its classes, and the weights that they earn it.
+#![tactic(auto)]
+
 pub mod auction;
 pub mod earned;
 pub mod filling;

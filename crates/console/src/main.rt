@@ -1,4 +1,6 @@
 // Reads commands for a book from standard input, one a line, and prints one line for each.
+#![tactic(auto)]
+
 use book::answers::{Answer, Holding, Seat};
 use book::book::Book;
 use book::phase::Phase;

@@ -1,4 +1,6 @@
 // Has a full book go through as many auctions as its argument says, and prints the sums of what its calls answer.
+#![tactic(auto)]
+
 use std::io::{BufWriter, Write};
 use std::{env, io};
 

@@ -1,4 +1,6 @@
 // A lot: its bids, the price that they make, what each bid gets, and what a member's bids earn it.
+#![tactic(auto)]
+
 pub mod allocations;
 pub mod bid;
 pub mod bids;

@@ -1,4 +1,6 @@
 // Reads a sheet of lots from standard input, line by line, and prints what becomes of each lot.
+#![tactic(auto)]
+
 mod command;
 
 use command::Command;

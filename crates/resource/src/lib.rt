@@ -1,4 +1,6 @@
 // Resources: money that can stand for a loss up to its capacity.
+#![tactic(auto)]
+
 pub mod deposit;
 pub mod drill;
 pub mod pool;

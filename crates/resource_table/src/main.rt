@@ -1,4 +1,6 @@
 // Runs one list of calls over a deposit and over pools of 1, 3 and 32 payers, and prints what each call leaves.
+#![tactic(auto)]
+
 use resource::deposit::Deposit;
 use resource::drill::{fill, settle};
 use resource::pool::Pool;

@@ -23,8 +23,8 @@ impl Weighted for Dollars {
 
 // The sum of the weights.
 pub fn sum<T: Weighted>(items: &[T]) -> u64
-    requires { total (map heft items.now) ≤ limit }
-    ensures { result ≡ total (map heft items.now) }
+    requires { total (map T.heft items.now) ≤ limit }
+    ensures { result ≡ total (map T.heft items.now) }
 {
     let mut all = 0;
     for x in items {
@@ -49,9 +49,9 @@ fn cut(amount: u64, before: u64, own: u64, all: u64) -> u64
 // What item `i` gets of `amount`: 0 where all the weights are 0.
 pub fn share<T: Weighted>(amount: u64, items: &[T], i: usize) -> u64
     requires bounded { amount ≤ limit }
-    requires summed { total (map heft items.now) ≤ limit }
+    requires summed { total (map T.heft items.now) ≤ limit }
     requires within { i < length items.now }
-    ensures value { result ≡ share_of amount (map heft items.now) i }
+    ensures value { result ≡ share_of amount (map T.heft items.now) i }
     ensures bound { result ≤ amount }
 {
     cut(amount, sum(&items[0..i]), items[i].weight(), sum(items))

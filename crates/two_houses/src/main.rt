@@ -1,4 +1,6 @@
 // Runs the same calls over a book whose house is a deposit and over one whose house is a pool, and prints both answers.
+#![tactic(auto)]
+
 use book::answers::Answer;
 use book::book::Book;
 use book::calls::Call;

@@ -1,4 +1,6 @@
 // Cuts a line of bytes into words, and reads the numbers that words write.
+#![tactic(auto)]
+
 ghost use Rattle.std.specs.List.{prefix_len};
 ghost use Rattle.words.specs.Laws.{WordsLaw};
 ghost use Rattle.words.specs.Numbers.{natural_upto, signed_of};

@@ -3,13 +3,13 @@ use Rattle.std.proofs.lemmas.List.Sums.{prefix_len-drop_yes, prefix_len-drop_no,
 use Rattle.words.specs.Words.{blank}
 use Rattle.words.proofs.blanks.Goals as goal
 
-pub returns-then-not-is-blank : goal.returns-then-not-is-blank
-returns-then-not-is-blank c =
-    omega (arith, prefix_len-drop_no blank c.args.line.now c.loop-i.i 0 c.loop-i-test.true (sym c.if-not-is-blank.ensures))
+pub returns-then-not-is_blank : goal.returns-then-not-is_blank
+returns-then-not-is_blank c =
+    omega (arith, prefix_len-drop_no blank c.args.line.now c.loop-i.i 0 c.loop-i-test.true (sym c.if-not-is_blank.ensures))
 
 pub loop-i-preserved : goal.loop-i-preserved
 loop-i-preserved c =
-    omega (arith, prefix_len-drop_yes blank c.args.line.now c.loop-i.i 0 c.loop-i-test.true (sym c.if-not-is-blank.ensures))
+    omega (arith, prefix_len-drop_yes blank c.args.line.now c.loop-i.i 0 c.loop-i-test.true (sym c.if-not-is_blank.ensures))
 
 pub returns : goal.returns
 returns c = omega (arith, prefix_len-drop_all blank c.args.line.now c.loop-i.i c.loop-i-test.false)

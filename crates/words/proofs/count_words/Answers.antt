@@ -7,7 +7,7 @@ use Rattle.words.proofs.count_words.Goals.{then-gap+then-not-blank, else-gap, el
 
 pub loop-b-preserved : goal.loop-b-preserved
 loop-b-preserved c =
-    let on = counts-on c.loop-b.gap c.is-blank-blank.result c.args.line.now c.loop-b.b-index c.loop-b.count c.if-gap.count (word_count c.args.line.now) c.loop-b-test.true c.is-blank-blank.ensures in
+    let on = counts-on c.loop-b.gap c.is_blank-blank.result c.args.line.now c.loop-b.b-index c.loop-b.count c.if-gap.count (word_count c.args.line.now) c.loop-b-test.true c.is_blank-blank.ensures in
     elim c.if-gap.branch [
       | then-gap+then-not-blank w ↦ rw w.gap-is (on (simp (w.if-gap.true, w.if-not-blank.true) (omega arith)) c.loop-b.invariant)
       | else-gap w ↦

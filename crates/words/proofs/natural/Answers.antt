@@ -3,37 +3,37 @@ use Rattle.std.proofs.lemmas.Bool.Decides.{nat_tests}
 use Rattle.words.proofs.Reading.{more, starts, steps, other, past, ends}
 use Rattle.words.proofs.natural.Goals as goal
 
-pub returns-then-not-is-ascii-digit : goal.returns-then-not-is-ascii-digit
-returns-then-not-is-ascii-digit c =
+pub returns-then-not-is_ascii_digit : goal.returns-then-not-is_ascii_digit
+returns-then-not-is_ascii_digit c =
     let start = starts c.args.most c.args.word.now (omega arith) in
-    let stop = other c.args.most c.loop-b.n c.args.word.now c.loop-b.b-index c.loop-b-test.true (sym c.if-not-is-ascii-digit.ensures.value) in
+    let stop = other c.args.most c.loop-b.n c.args.word.now c.loop-b.b-index c.loop-b-test.true (sym c.if-not-is_ascii_digit.ensures.value) in
     cc
 
-pub returns-in-err-checked-mul : goal.returns-in-err-checked-mul
-returns-in-err-checked-mul c =
+pub returns-in-err-checked_mul : goal.returns-in-err-checked_mul
+returns-in-err-checked_mul c =
     let start = starts c.args.most c.args.word.now (omega arith) in
-    let far : c.args.most < more c.loop-b.n (get_or c.args.word.now c.loop-b.b-index 0) = omega (arith, c.in-err-checked-mul.ensures) in
+    let far : c.args.most < more c.loop-b.n (get_or c.args.word.now c.loop-b.b-index 0) = omega (arith, c.in_err-checked_mul.ensures) in
     let stop = past c.args.most c.loop-b.n c.args.word.now c.loop-b.b-index c.loop-b-test.true far in
     cc
 
 pub returns-in-err-n : goal.returns-in-err-n
 returns-in-err-n c =
     let start = starts c.args.most c.args.word.now (omega arith) in
-    let far : c.args.most < more c.loop-b.n (get_or c.args.word.now c.loop-b.b-index 0) = omega (arith, c.in-ok-checked-mul.ensures, c.in-err-n.ensures) in
+    let far : c.args.most < more c.loop-b.n (get_or c.args.word.now c.loop-b.b-index 0) = omega (arith, c.in_ok-checked_mul.ensures, c.in_err-n.ensures) in
     let stop = past c.args.most c.loop-b.n c.args.word.now c.loop-b.b-index c.loop-b-test.true far in
     cc
 
 pub returns-then-n-most : goal.returns-then-n-most
 returns-then-n-most c =
     let start = starts c.args.most c.args.word.now (omega arith) in
-    let far : c.args.most < more c.loop-b.n (get_or c.args.word.now c.loop-b.b-index 0) = omega (arith, c.in-ok-checked-mul.ensures, c.in-ok-n.ensures) in
+    let far : c.args.most < more c.loop-b.n (get_or c.args.word.now c.loop-b.b-index 0) = omega (arith, c.in_ok-checked_mul.ensures, c.in_ok-n.ensures) in
     let stop = past c.args.most c.loop-b.n c.args.word.now c.loop-b.b-index c.loop-b-test.true far in
     cc
 
 pub loop-b-preserved : goal.loop-b-preserved
 loop-b-preserved c =
-    let is : c.in-ok-n.n ≡ more c.loop-b.n (get_or c.args.word.now c.loop-b.b-index 0) = omega (arith, c.in-ok-checked-mul.ensures, c.in-ok-n.ensures) in
-    let step = steps c.args.most c.loop-b.n c.args.word.now c.loop-b.b-index c.loop-b-test.true (sym c.if-not-is-ascii-digit.ensures.value) in
+    let is : c.in_ok-n.n ≡ more c.loop-b.n (get_or c.args.word.now c.loop-b.b-index 0) = omega (arith, c.in_ok-checked_mul.ensures, c.in_ok-n.ensures) in
+    let step = steps c.args.most c.loop-b.n c.args.word.now c.loop-b.b-index c.loop-b-test.true (sym c.if-not-is_ascii_digit.ensures.value) in
     (c.if-n-most.false, rw is (sym step ∙ c.loop-b.invariant.1))
 
 pub returns : goal.returns

@@ -4,14 +4,14 @@ use Rattle.std.proofs.lemmas.List.Sums.{prefix_len-le-length}
 use Rattle.words.specs.Words.{blank}
 use Rattle.words.proofs.split_word.Goals as goal
 
-pub slice-bounds-line-count : goal.slice-bounds-line-count
-slice-bounds-line-count c = omega (arith, prefix_len-le-length blank c.args.line.now)
+pub slice_bounds-line-count : goal.slice_bounds-line-count
+slice_bounds-line-count c = omega (arith, prefix_len-le-length blank c.args.line.now)
 
-pub slice-bounds-line-start : goal.slice-bounds-line-start
-slice-bounds-line-start c = omega (arith, prefix_len-le-length blank c.args.line.now)
+pub slice_bounds-line-start : goal.slice_bounds-line-start
+slice_bounds-line-start c = omega (arith, prefix_len-le-length blank c.args.line.now)
 
-pub split-at-requires : goal.split-at-requires
-split-at-requires c = search (rules, prefix_len-le-length)
+pub split_at-requires : goal.split_at-requires
+split_at-requires c = search (rules, prefix_len-le-length)
 
 pub returns : goal.returns
 returns c =

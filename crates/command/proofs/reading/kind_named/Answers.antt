@@ -3,4 +3,4 @@ use Rattle.command.proofs.Names.{differs}
 use Rattle.command.proofs.reading.kind_named.Goals as goal
 
 pub returns-in-default : goal.returns-in-default
-returns-in-default c = rw (differs c.args.name.now (codes "standard") c.in-default.not-standard, differs c.args.name.now (codes "all") c.in-default.not-all)
+returns-in-default c = rw (differs c.args.name.now (codes "standard") c.in_default.not-standard, differs c.args.name.now (codes "all") c.in_default.not-all)

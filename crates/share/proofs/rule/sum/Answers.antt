@@ -4,8 +4,8 @@ use Rattle.share.specs.Rule.{total}
 use Rattle.share.proofs.Shares.{total-item, total-take-le}
 use Rattle.share.proofs.rule.sum.Goals as goal
 
-pub overflow-add-all : goal.overflow-add-all
-overflow-add-all g c =
+pub overflow_add-all : goal.overflow_add-all
+overflow_add-all g c =
     let f = g.T.Weighted.heft in
     let next = total-item f c.args.items.now c.loop-x.x-index _ c.loop-x-test.true c.x-item.is in
     let most = total-take-le (map f c.args.items.now) (c.loop-x.x-index + 1) in

@@ -9,7 +9,7 @@ returns-then-i-self c =
     let self = c.args.self.now in
     let i = c.index-i.result in
     let m = c.args.member in
-    lots-set self.lots c.excuse-from.new.lots self.count i (excusing m (get_or (map listing_of self.lots) i unlisted)) c.excuse-from.ensures
+    lots-set self.lots c.excuse_from.new.lots self.count i (excusing m (get_or (map listing_of self.lots) i unlisted)) c.excuse_from.ensures
     ∙ ap (λ l. set (map listing_of (take self.count self.lots)) i (excusing m l)) (lot-in self.lots self.count c.args.lot i c.index-i.ensures c.if-i-self.true)
     ∙ ap (λ k. set (map listing_of (take self.count self.lots)) k (excusing m (lot_at (map listing_of (take self.count self.lots)) c.args.lot))) c.index-i.ensures
 
@@ -18,10 +18,10 @@ returns-else-i-self c =
     let self = c.args.self.now in
     set-none self.lots self.count c.args.lot c.index-i.result _ (omega (arith, self.rooms, self.few)) c.index-i.ensures c.if-i-self.false
 
-pub invariant-of-self : goal.invariant-of-self
-invariant-of-self c =
+pub invariant_of-self : goal.invariant_of-self
+invariant_of-self c =
     let self = c.args.self.now in
     let i = c.index-i.result in
     let y = excusing c.args.member (get_or (map listing_of self.lots) i unlisted) in
-    let same = ap total (same-weights self.lots c.excuse-from.new.lots self.count i y c.if-i-self.true c.excuse-from.ensures refl) in
-    (same_length self.lots c.excuse-from.new.lots i y c.excuse-from.ensures ∙ self.rooms, (self.few, (omega (arith, same, self.shared), tt)))
+    let same = ap total (same-weights self.lots c.excuse_from.new.lots self.count i y c.if-i-self.true c.excuse_from.ensures refl) in
+    (same_length self.lots c.excuse_from.new.lots i y c.excuse_from.ensures ∙ self.rooms, (self.few, (omega (arith, same, self.shared), tt)))

@@ -9,7 +9,7 @@ use Rattle.auction.proofs.auction.Auction.is_silent.Goals as goal
 pub returns : goal.returns
 returns c =
     let self = c.args.self.now in
-    c.is-silent.ensures
+    c.is_silent.ensures
     ∙ ap (λ n. some_silent (take n c.earned.result)) (sub-zero self.count)
     ∙ ap some_silent c.earned.ensures.value
     ∙ silent-earned (places_of c.args.members.now) c.args.member (listings_of self)

@@ -14,14 +14,14 @@ pub returns-in-default : goal.returns-in-default
 returns-in-default c =
     let o = c.args.offer.now in
     let i = c.loop-i.i in
-    let wrong = unmade-bad (bad_lot (get_or o.terms i _)) (number c.in-default.field-0) (opened (get_or o.terms i _)) c.in-default.ensures in
-    ap (λ v. unless (if_so v LotTerms) (map opened (terms_of o))) (sym (bad-refused o (bad-at o.terms o.count i _ (omega (arith, c.loop-i-test.true, c.from-count.ensures)) (omega (arith, o.four, c.loop-i-test.true, c.from-count.ensures, c.if-offer-gt-MOST-LOTS.false)) wrong)))
+    let wrong = unmade-bad (bad_lot (get_or o.terms i _)) (number c.in_default.field-0) (opened (get_or o.terms i _)) c.in_default.ensures in
+    ap (λ v. unless (if_so v LotTerms) (map opened (terms_of o))) (sym (bad-refused o (bad-at o.terms o.count i _ (omega (arith, c.loop-i-test.true, c.from-count.ensures)) (omega (arith, o.four, c.loop-i-test.true, c.from-count.ensures, c.if-offer-gt-MOST_LOTS.false)) wrong)))
 
 pub loop-i-preserved : goal.loop-i-preserved
 loop-i-preserved c =
     let o = c.args.offer.now in
     let i = c.loop-i.i in
-    let inside : i < length o.terms = omega (arith, o.four, c.loop-i-test.true, c.from-count.ensures, c.if-offer-gt-MOST-LOTS.false) in
+    let inside : i < length o.terms = omega (arith, o.four, c.loop-i-test.true, c.from-count.ensures, c.if-offer-gt-MOST_LOTS.false) in
     let good = made-good (bad_lot (get_or o.terms i _)) (listing_of c.in-Ok.lot) (opened (get_or o.terms i _)) c.in-Ok.ensures in (
       length-set c.loop-i.lots i c.in-Ok.lot ∙ c.loop-i.invariant.0,
       opened-more c.loop-i.lots o.terms i c.in-Ok.lot _ (omega (arith, c.loop-i.invariant.0, inside, o.four)) inside good.1 c.loop-i.invariant.1,
@@ -30,10 +30,10 @@ loop-i-preserved c =
       omega (arith, c.plus-weights.ensures.bound, c.loop-i.invariant.4),
     )
 
-pub invariant-of-result : goal.invariant-of-result
-invariant-of-result c =
+pub invariant_of-result : goal.invariant_of-result
+invariant_of-result c =
     let o = c.args.offer.now in
     let end : c.from-count.result ≡ c.loop-i.i = omega (arith, c.loop-i-test.false, c.loop-i.auto.i-end) in
     let same : lot_weights (map listing_of (take c.from-count.result c.loop-i.lots)) ≡ map (λ (t : Terms). t.weight) (take c.loop-i.i o.terms) =
     ap (λ n. lot_weights (map listing_of (take n c.loop-i.lots))) end ∙ ap lot_weights c.loop-i.invariant.1 ∙ weights-opened (take c.loop-i.i o.terms) in
-    (c.loop-i.invariant.0, (omega (arith, c.from-count.ensures, c.if-offer-gt-MOST-LOTS.false), (omega (arith, ap total same, c.loop-i.invariant.3, c.if-weights-ne-ALL-WEIGHTS.false), tt)))
+    (c.loop-i.invariant.0, (omega (arith, c.from-count.ensures, c.if-offer-gt-MOST_LOTS.false), (omega (arith, ap total same, c.loop-i.invariant.3, c.if-weights-ne-ALL_WEIGHTS.false), tt)))

@@ -4,8 +4,8 @@ use Rattle.auction.specs.Lots.{unsold}
 use Rattle.auction.proofs.Tallies.{unsold-more, unsold-few}
 use Rattle.auction.proofs.auction.filling.failures.Goals as goal
 
-pub overflow-add-failed : goal.overflow-add-failed
-overflow-add-failed c =
+pub overflow_add-failed : goal.overflow_add-failed
+overflow_add-failed c =
     let ps = c.args.prices.now in
     let i = c.loop-price.price-index in
     omega (arith, c.failure-failed.ensures, c.loop-price.invariant, unsold-more ps i c.loop-price-test.true, unsold-few ps (i + 1), c.requires)

@@ -18,7 +18,7 @@ pub returns : goal.returns
 returns c =
     let l = listing_of c.args.self.now in
     let b = c.args.bid in
-    let free = sym c.if-is-excused.ensures in
+    let free = sym c.if-is_excused.ensures in
     record {
       answer = c.enter.ensures.answer ∙ ap (λ n. unless n (length l.bids + 1)) (sym (tests-unexcused l b free));
       after = entered-unexcused l b _ free c.enter.ensures.after;

@@ -4,4 +4,4 @@ use Rattle.auction.proofs.Funds.{less_none}
 use Rattle.auction.proofs.roster.Roster.lower.Goals as goal
 
 pub returns-in-default : goal.returns-in-default
-returns-in-default c = less_none (map held c.args.self.now.places) c.args.member c.args.fund.0 c.args.assessment.0 c.in-default.ensures
+returns-in-default c = less_none (map held c.args.self.now.places) c.args.member c.args.fund.0 c.args.assessment.0 c.in_default.ensures

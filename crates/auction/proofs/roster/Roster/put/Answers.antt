@@ -5,8 +5,8 @@ use Rattle.auction.proofs.Funds.{funded-set}
 use Rattle.auction.proofs.Rosters.{put_in, put-past}
 use Rattle.auction.proofs.roster.Roster.put.Goals as goal
 
-pub invariant-of-self : goal.invariant-of-self
-invariant-of-self c =
+pub invariant_of-self : goal.invariant_of-self
+invariant_of-self c =
     let self = c.args.self.now in
     let i = c.index-i.result in
     let entry = c.args.entry in

@@ -18,8 +18,8 @@ use Rattle.book.specs.declared.phase.Phase.TheVariants.{Bidding}
 use Rattle.book.proofs.Answering.{in-phase, phase-known, answered-by, refused-by, first_two, both-pass, second-in_range, lots-left}
 use Rattle.book.proofs.book.Book.bid.Goals as goal
 
-pub returns-in-err-member-and-lot : goal.returns-in-err-member-and-lot
-returns-in-err-member-and-lot g c =
+pub returns-in-err-member_and_lot : goal.returns-in-err-member_and_lot
+returns-in-err-member_and_lot g c =
     let self = c.args.self.now in
     let b = view g.R.Resource self in
     let m = c.args.member in
@@ -28,9 +28,9 @@ returns-in-err-member-and-lot g c =
     let k = BidCall m l c.args.kind c.args.size c.args.price in
     let range = if_so (no_member m || no_lot b.lots l) OutOfRange in
     let enrolled = if_so (absent b.roster m) NotEnrolled in
-    let declines = in-phase b k (unless-ok (out_of_phase b Bidding) tt tt c.in-ok-in-phase.ensures).0 in
-    let p = err_from_is_err_and c.from-residual-in-err-member-and-lot.result c.from-residual-in-err-member-and-lot.ensures.1 in
-    let both = refused-by b k entering_as (first_nonzero (member_lot_tests b m l)) (number c.in-err-member-and-lot.field-0.0) tt (numbered c.from-residual-in-err-member-and-lot.result) c.in-err-member-and-lot.ensures
+    let declines = in-phase b k (unless-ok (out_of_phase b Bidding) tt tt c.in_ok-in_phase.ensures).0 in
+    let p = err_from_is_err_and c.from_residual-in-err-member_and_lot.result c.from_residual-in-err-member_and_lot.ensures.1 in
+    let both = refused-by b k entering_as (first_nonzero (member_lot_tests b m l)) (number c.in_err-member_and_lot.field-0.0) tt (numbered c.from_residual-in-err-member_and_lot.result) c.in_err-member_and_lot.ensures
     (λ h. declines ∙ first_two range enrolled (bid_tests (lot_at b.lots l) bid) h) (ap numbered (p.1 ∙ ap Err p.2)) in
     record { answer = both.0; after = both.1 }
 
@@ -45,8 +45,8 @@ returns g c =
     let k = BidCall m l c.args.kind c.args.size c.args.price in
     let range = if_so (no_member m || no_lot ls l) OutOfRange in
     let enrolled = if_so (absent b.roster m) NotEnrolled in
-    let phase = (unless-ok (out_of_phase b Bidding) tt tt c.in-ok-in-phase.ensures).0 in
-    let passed = both-pass range enrolled (bid_tests (lot_at ls l) bid) (unless-ok (first_nonzero (member_lot_tests b m l)) tt tt c.in-ok-member-and-lot.ensures).0 in
+    let phase = (unless-ok (out_of_phase b Bidding) tt tt c.in_ok-in_phase.ensures).0 in
+    let passed = both-pass range enrolled (bid_tests (lot_at ls l) bid) (unless-ok (first_nonzero (member_lot_tests b m l)) tt tt c.in_ok-member_and_lot.ensures).0 in
     let there = somewhere ls l bid (second-in_range (no_member m) (no_lot ls l) passed.0) in
     let declines : declined b k ≡ first_nonzero (lot_tests ls l bid) = in-phase b k phase ∙ passed.1 ∙ sym there in
     let sized = ap₂ (bid_of m c.args.kind) c.from.ensures (to_z-of_z w32 c.args.price c.ranges.price) in

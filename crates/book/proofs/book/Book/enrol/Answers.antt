@@ -19,7 +19,7 @@ returns g c =
     let k = Enrol c.args.member c.args.fund c.args.assessment in
     let n = first_nonzero (enrol_tests r c.args.member c.args.fund.0 c.args.assessment.0) in
     let new = put r c.args.member (member_with c.args.fund.0 c.args.assessment.0) in
-    let declines = in-phase b k (unless-ok (out_of_phase b Resting) tt tt c.in-ok-in-phase.ensures).0 in
+    let declines = in-phase b k (unless-ok (out_of_phase b Resting) tt tt c.in_ok-in_phase.ensures).0 in
     record {
       answer = answered-by b k done n tt (numbered c.enrol.result) declines refl c.enrol.ensures.answer;
       after = ap (with_roster b) c.enrol.ensures.after ∙ roster-left n b new ∙ ap (λ m. left_by m b (after b k)) (sym declines);

@@ -7,6 +7,6 @@ use Rattle.book.proofs.book.Book.new.Goals as goal
 
 pub returns : goal.returns
 returns g c =
-    let b : Book g.row.R.Denot = record { phase = Resting; members = c.new.result; auction = c.none.result; seats = c.idle.result; house = c.stand-at.new.self; loss = record { 0 = 0 } } in
+    let b : Book g.row.R.Denot = record { phase = Resting; members = c.new.result; auction = c.none.result; seats = c.idle.result; house = c.stand_at.new.self; loss = record { 0 = 0 } } in
     let fresh : view g.R.Resource b ≡ made (g.R.Resource.capacity c.args.house) = search rules in
     record { view = fresh; lives = new b fresh }

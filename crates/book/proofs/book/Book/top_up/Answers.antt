@@ -20,8 +20,8 @@ returns g c =
     let k = TopUp c.args.member c.args.fund c.args.assessment in
     let n = first_nonzero (top_up_tests r c.args.member c.args.fund.0 c.args.assessment.0) in
     let new = put r c.args.member (topped_up (place r c.args.member) c.args.fund.0 c.args.assessment.0) in
-    let declines = in-phase b k (unless-ok (out_of_phase b Resting) tt tt c.in-ok-in-phase.ensures).0 in
+    let declines = in-phase b k (unless-ok (out_of_phase b Resting) tt tt c.in_ok-in_phase.ensures).0 in
     record {
-      answer = answered-by b k done n tt (numbered c.top-up.result) declines refl c.top-up.ensures.answer;
-      after = ap (with_roster b) c.top-up.ensures.after ∙ roster-left n b new ∙ ap (λ m. left_by m b (after b k)) (sym declines);
+      answer = answered-by b k done n tt (numbered c.top_up.result) declines refl c.top_up.ensures.answer;
+      after = ap (with_roster b) c.top_up.ensures.after ∙ roster-left n b new ∙ ap (λ m. left_by m b (after b k)) (sym declines);
     }

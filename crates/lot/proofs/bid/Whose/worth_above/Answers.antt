@@ -9,14 +9,14 @@ price-fits c = search rules
 -- the factors, and that their product fits
 factors : (c : goal.After-from-2) → to_z w64 (of_z w64 c.from.result) *ℤ to_z w64 (of_z w64 c.from-2.result) ≡ c.args.bid.now.price.0 *ℤ pos c.asked.result
 factors c = ap₂ ◌*ℤ◌
-    (to_z-of_z w64 c.from.result (record { sfits = c.from.type-inv }) ∙ c.from.ensures ∙ to_z-of_z w32 _ (price-fits c))
-    (to_z-of_z w64 c.from-2.result (record { sfits = c.from-2.type-inv }) ∙ c.from-2.ensures)
+    (to_z-of_z w64 c.from.result (record { sfits = c.from.type_inv }) ∙ c.from.ensures ∙ to_z-of_z w32 _ (price-fits c))
+    (to_z-of_z w64 c.from-2.result (record { sfits = c.from-2.type_inv }) ∙ c.from-2.ensures)
 
 fits : (c : goal.After-from-2) → SFits w64 (c.args.bid.now.price.0 *ℤ pos c.asked.result)
-fits c = times-fits c.args.bid.now.price.0 c.asked.result (price-fits c) c.asked.type-inv
+fits c = times-fits c.args.bid.now.price.0 c.asked.result (price-fits c) c.asked.type_inv
 
-pub overflow-mul-result : goal.overflow-mul-result
-overflow-mul-result c = rw (factors c) (fits c)
+pub overflow_mul-result : goal.overflow_mul-result
+overflow_mul-result c = rw (factors c) (fits c)
 
 pub returns : goal.returns
 returns c = rw (factors c) (to_z-of_z w64 _ (fits c) ∙ ap (λ n. c.args.bid.now.price.0 *ℤ pos n) c.asked.ensures)

@@ -18,17 +18,17 @@ last-is c = sym c.in-Some.ensures
 quotient : (c : goal.After-mean) → c.mean.result ≡ floor (worth_down_to c.args.whose c.args.parts (entries_of c.args.self.now) c.in-Some.last) c.args.parts
 quotient c =
     c.mean.ensures
-    ∙ ap (λ z. int_div_euclid z (pos c.args.parts)) (to_z-of_z w64 _ (record { sfits = c.worth-down-to-worth.type-inv }) ∙ c.worth-down-to-worth.ensures)
+    ∙ ap (λ z. int_div_euclid z (pos c.args.parts)) (to_z-of_z w64 _ (record { sfits = c.worth_down_to-worth.type_inv }) ∙ c.worth_down_to-worth.ensures)
     ∙ floor-is _ c.args.parts
 
 quotient_fits : (c : goal.After-mean) → SFits w32 (floor (worth_down_to c.args.whose c.args.parts (entries_of c.args.self.now) c.in-Some.last) c.args.parts)
 quotient_fits c = fits-32 _ (average-small c.args.whose c.args.parts c.args.self.now c.in-Some.last c.requires (last-is c))
 
 read : (c : goal.After-mean) → to_z w64 (of_z w64 c.mean.result) ≡ floor (worth_down_to c.args.whose c.args.parts (entries_of c.args.self.now) c.in-Some.last) c.args.parts
-read c = to_z-of_z w64 _ (record { sfits = c.mean.type-inv }) ∙ quotient c
+read c = to_z-of_z w64 _ (record { sfits = c.mean.type_inv }) ∙ quotient c
 
-pub overflow-cast-result : goal.overflow-cast-result
-overflow-cast-result c = rw (read c) (quotient_fits c)
+pub overflow_cast-result : goal.overflow_cast-result
+overflow_cast-result c = rw (read c) (quotient_fits c)
 
 pub returns-in-default : goal.returns-in-default
 returns-in-default c =

@@ -20,14 +20,14 @@ share-own-requires c =
       within = rw (sub-zero, is, length-map) (omega (arith, length-entries lot));
     }
 
-pub overflow-add-parts : goal.overflow-add-parts
-overflow-add-parts c = omega (arith, above-small c.args.price c.args.self.now c.rungs-rungs.result c.rungs-rungs.ensures.value c.loop-i.i c.loop-i-test.true)
+pub overflow_add-parts : goal.overflow_add-parts
+overflow_add-parts c = omega (arith, above-small c.args.price c.args.self.now c.rungs-rungs.result c.rungs-rungs.ensures.value c.loop-i.i c.loop-i-test.true)
 
 pub loop-i-preserved : goal.loop-i-preserved
 loop-i-preserved c =
     let lot = c.args.self.now in
     let rs = take lot.count c.rungs-rungs.result in
-    let rest = c.saturating-sub-rest.result in
+    let rest = c.saturating_sub-rest.result in
     let i = c.loop-i.i in
     let read = get_or-take lot.count c.rungs-rungs.result i no_rung c.loop-i-test.true in
     let own : c.share-own.result ≡ share_of rest (map (λ (r : Rung). r.tied.0) rs) i =
@@ -43,10 +43,10 @@ pub returns : goal.returns
 returns c =
     let lot = c.args.self.now in
     let rs = take lot.count c.rungs-rungs.result in
-    let rest = c.saturating-sub-rest.result in
+    let rest = c.saturating_sub-rest.result in
     let end : c.loop-i.i ≡ lot.count = omega arith in
     let short : length (filled rest rs) ≤ lot.count = rw (length-filled rest rs) (simp length-take (omega arith)) in
-    let rest-is = c.saturating-sub-rest.ensures ∙ ap (λ n. 10000 - n) c.asked.ensures in
+    let rest-is = c.saturating_sub-rest.ensures ∙ ap (λ n. 10000 - n) c.asked.ensures in
     record {
       value =
           subst (λ n. numbers (take n c.loop-i.parts) ≡ take n (filled rest rs)) end c.loop-i.invariant.1

@@ -7,18 +7,18 @@ use Rattle.lot.proofs.bids.Bids.enter.Goals as goal
 
 pub returns-in-err-admits : goal.returns-in-err-admits
 returns-in-err-admits c =
-    let e = c.in-err-admits.ensures in
-    let p = err_from_is_err_and c.from-residual.result c.from-residual.ensures.1 in
+    let e = c.in_err-admits.ensures in
+    let p = err_from_is_err_and c.from_residual.result c.from_residual.ensures.1 in
     record { answer = rw (p.1, p.2) (unless-err _ _ tt _ e); after = entered-err _ c.args.bid _ e }
 
-pub invariant-of-self : goal.invariant-of-self
-invariant-of-self c =
-    let e = c.in-ok-admits.ensures in
+pub invariant_of-self : goal.invariant_of-self
+invariant_of-self c =
+    let e = c.in_ok-admits.ensures in
     let lot = c.args.self.now in
     let b = c.args.bid in
     (omega (arith, room-left lot b e), (simp length-set lot.long, (next-taken lot b e, tt)))
 
 pub returns : goal.returns
 returns c =
-    let e = c.in-ok-admits.ensures in
+    let e = c.in_ok-admits.ensures in
     record { answer = next-number c.args.self.now c.args.bid e; after = next-entered c.args.self.now c.args.bid e }

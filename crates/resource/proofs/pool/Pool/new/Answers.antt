@@ -13,8 +13,8 @@ returns-then-payers-lt1 c =
     let wrong : (length ws < 1) ⊎ (32 < length ws) = ⊎_elim (λ few. inl (omega arith)) (λ many. inr (omega (arith, many.1))) c.then-payers-lt1.either in
     rw (count-refused ws wrong)
 
-pub returns-then-payers-i-gt-MOST-WEIGHT : goal.returns-then-payers-i-gt-MOST-WEIGHT
-returns-then-payers-i-gt-MOST-WEIGHT c =
+pub returns-then-payers-i-gt-MOST_WEIGHT : goal.returns-then-payers-i-gt-MOST_WEIGHT
+returns-then-payers-i-gt-MOST_WEIGHT c =
     let read = get_or-map worth c.args.payers.now c.loop-i.i (record { 0 = 0 }) 0 c.loop-i-test.true in
     let long = length-map c.args.payers.now worth in
     let found = heavy-at (weights_of c.args.payers.now) c.loop-i.i (omega arith) (omega arith) in
@@ -34,8 +34,8 @@ sum-requires c =
     let light : Light (weights_of ps) = λ k h. let inside : k < length ps = rw length-map at h in c.loop-i.invariant.2 k (omega arith) in
     light-total (weights_of ps) light (omega (arith, length-map ps worth))
 
-pub invariant-of-result : goal.invariant-of-result
-invariant-of-result c =
+pub invariant_of-result : goal.invariant_of-result
+invariant_of-result c =
     let ps = c.args.payers.now in
     let full : take (length ps) c.loop-i.weights ≡ ps = copied_all c.loop-i.weights ps c.loop-i.i (omega arith) c.loop-i.invariant.1 in
     let light : Light (weights_of ps) = λ k h. let inside : k < length ps = rw length-map at h in c.loop-i.invariant.2 k (omega arith) in

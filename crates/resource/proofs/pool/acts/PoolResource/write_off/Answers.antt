@@ -7,14 +7,14 @@ use Rattle.resource.specs.Payers.{Light, weights_of}
 use Rattle.resource.specs.Weights.{length-weights, get_d_front, lowered-more, lowered-all, lowered-light}
 use Rattle.resource.proofs.pool.acts.PoolResource.write_off.Goals as goal
 
-pub borne-at-requires : goal.borne-at-requires
-borne-at-requires c =
+pub borne_at-requires : goal.borne_at-requires
+borne_at-requires c =
     let p = c.args.self.now in
     let long = length-weights p.count p.weights (omega arith) in
     omega arith
 
-pub overflow-sub-rest : goal.overflow-sub-rest
-overflow-sub-rest c =
+pub overflow_sub-rest : goal.overflow_sub-rest
+overflow_sub-rest c =
     let p = c.args.self.now in
     let ws = weights_of (take p.count p.weights) in
     let long = length-weights p.count p.weights (omega arith) in
@@ -29,8 +29,8 @@ loop-i-preserved c =
       lowered-more c.loop-i.rest _ _ c.loop-i.i (omega arith) (omega arith) c.loop-i.invariant.1,
     )
 
-pub invariant-of-self : goal.invariant-of-self
-invariant-of-self c =
+pub invariant_of-self : goal.invariant_of-self
+invariant_of-self c =
     let p = c.args.self.now in
     let ws = weights_of (take p.count p.weights) in
     let long = length-weights p.count p.weights (omega arith) in
