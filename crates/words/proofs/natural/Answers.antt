@@ -9,15 +9,15 @@ returns-then-not-is_ascii_digit c =
     let stop = other c.args.most c.loop-b.n c.args.word.now c.loop-b.b-index c.loop-b-test.true (sym c.if-not-is_ascii_digit.ensures.value) in
     cc
 
-pub returns-in-err-checked_mul : goal.returns-in-err-checked_mul
-returns-in-err-checked_mul c =
+pub returns-in_err-checked_mul : goal.returns-in_err-checked_mul
+returns-in_err-checked_mul c =
     let start = starts c.args.most c.args.word.now (omega arith) in
     let far : c.args.most < more c.loop-b.n (get_or c.args.word.now c.loop-b.b-index 0) = omega (arith, c.in_err-checked_mul.ensures) in
     let stop = past c.args.most c.loop-b.n c.args.word.now c.loop-b.b-index c.loop-b-test.true far in
     cc
 
-pub returns-in-err-n : goal.returns-in-err-n
-returns-in-err-n c =
+pub returns-in_err-n : goal.returns-in_err-n
+returns-in_err-n c =
     let start = starts c.args.most c.args.word.now (omega arith) in
     let far : c.args.most < more c.loop-b.n (get_or c.args.word.now c.loop-b.b-index 0) = omega (arith, c.in_ok-checked_mul.ensures, c.in_err-n.ensures) in
     let stop = past c.args.most c.loop-b.n c.args.word.now c.loop-b.b-index c.loop-b-test.true far in

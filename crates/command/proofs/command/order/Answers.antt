@@ -3,5 +3,5 @@ use Rattle.command.proofs.Names.{missed}
 use Rattle.command.specs.Commands.{orders, question_of}
 use Rattle.command.proofs.command.order.Goals as goal
 
-pub returns-in-default : goal.returns-in-default
-returns-in-default c = c.question.ensures ∙ missed c.args.name.now (orders c.args.rest.now) (question_of c.args.name.now c.args.rest.now) (search rules)
+pub returns-in_default : goal.returns-in_default
+returns-in_default c = c.question.ensures ∙ missed c.args.name.now (orders c.args.rest.now) (question_of c.args.name.now c.args.rest.now) (search rules)

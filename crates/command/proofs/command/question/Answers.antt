@@ -3,6 +3,6 @@ use Rattle.command.proofs.Names.{missed}
 use Rattle.command.specs.Commands.{questions}
 use Rattle.command.proofs.command.question.Goals as goal
 
-pub returns-in-default : goal.returns-in-default
-returns-in-default c =
+pub returns-in_default : goal.returns-in_default
+returns-in_default c =
     missed c.args.name.now (questions c.args.rest.now) _ (search rules)

@@ -5,8 +5,8 @@ use Rattle.command.proofs.Filling.{filled, fills-all, fills-fault, fills-on}
 use Rattle.command.proofs.opening.first_four.Goals as goal
 use Rattle.command.proofs.opening.first_four.Goals.{then-i-lt4, else-i-lt4}
 
-pub returns-in-err-lot : goal.returns-in-err-lot
-returns-in-err-lot c =
+pub returns-in_err-lot : goal.returns-in_err-lot
+returns-in_err-lot c =
     let p = err_from_is_err_and c.from_residual.result c.from_residual.ensures.1 in
     let stop = fills-fault c.args.lots c.loop-i.i c.loop-i.held c.loop-i.rest.now c.in_err-lot.field-0.0 c.loop-i-test.true c.in_err-lot.ensures in
     let all = filled c.args.lots c.args.line.now in

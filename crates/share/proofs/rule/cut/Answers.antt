@@ -4,7 +4,7 @@ use Rattle.share.proofs.rule.cut.Goals as goal
 
 pub overflow_mul-result : goal.overflow_mul-result
 overflow_mul-result c =
-    let small : c.args.before + c.args.own_val ≤ 3200000000 = omega arith in
+    let small : c.args.before + c.args.own ≤ 3200000000 = omega arith in
     let most = mul-le-mul c.requires.bounded small in
     omega arith
 
@@ -16,5 +16,5 @@ overflow_mul-result-2 c =
 
 pub overflow_sub-result : goal.overflow_sub-result
 overflow_sub-result c =
-    let less : c.args.before ≤ c.args.before + c.args.own_val = omega arith in
+    let less : c.args.before ≤ c.args.before + c.args.own = omega arith in
     div_mono _ _ c.args.all (mul-le-mul_left c.args.amount less)

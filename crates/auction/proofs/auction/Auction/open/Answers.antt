@@ -10,8 +10,8 @@ use Rattle.auction.specs.declared.terms.Terms.{Terms}
 use Rattle.auction.proofs.Opening.{opened-more, bad_more, bad-at, weights-more, weights-opened, made-good, unmade-bad, bad-refused}
 use Rattle.auction.proofs.auction.Auction.open.Goals as goal
 
-pub returns-in-default : goal.returns-in-default
-returns-in-default c =
+pub returns-in_default : goal.returns-in_default
+returns-in_default c =
     let o = c.args.offer.now in
     let i = c.loop-i.i in
     let wrong = unmade-bad (bad_lot (get_or o.terms i _)) (number c.in_default.field-0) (opened (get_or o.terms i _)) c.in_default.ensures in

@@ -3,5 +3,5 @@ use Rattle.auction.specs.Roster.{held}
 use Rattle.auction.proofs.Funds.{less_none}
 use Rattle.auction.proofs.roster.Roster.lower.Goals as goal
 
-pub returns-in-default : goal.returns-in-default
-returns-in-default c = less_none (map held c.args.self.now.places) c.args.member c.args.fund.0 c.args.assessment.0 c.in_default.ensures
+pub returns-in_default : goal.returns-in_default
+returns-in_default c = less_none (map held c.args.self.now.places) c.args.member c.args.fund.0 c.args.assessment.0 c.in_default.ensures

@@ -18,8 +18,8 @@ use Rattle.book.specs.declared.phase.Phase.TheVariants.{Bidding}
 use Rattle.book.proofs.Answering.{in-phase, phase-known, answered-by, refused-by, first_two, both-pass, second-in_range, lots-left}
 use Rattle.book.proofs.book.Book.bid.Goals as goal
 
-pub returns-in-err-member_and_lot : goal.returns-in-err-member_and_lot
-returns-in-err-member_and_lot g c =
+pub returns-in_err-member_and_lot : goal.returns-in_err-member_and_lot
+returns-in_err-member_and_lot g c =
     let self = c.args.self.now in
     let b = view g.R.Resource self in
     let m = c.args.member in
@@ -29,8 +29,8 @@ returns-in-err-member_and_lot g c =
     let range = if_so (no_member m || no_lot b.lots l) OutOfRange in
     let enrolled = if_so (absent b.roster m) NotEnrolled in
     let declines = in-phase b k (unless-ok (out_of_phase b Bidding) tt tt c.in_ok-in_phase.ensures).0 in
-    let p = err_from_is_err_and c.from_residual-in-err-member_and_lot.result c.from_residual-in-err-member_and_lot.ensures.1 in
-    let both = refused-by b k entering_as (first_nonzero (member_lot_tests b m l)) (number c.in_err-member_and_lot.field-0.0) tt (numbered c.from_residual-in-err-member_and_lot.result) c.in_err-member_and_lot.ensures
+    let p = err_from_is_err_and c.from_residual-in_err-member_and_lot.result c.from_residual-in_err-member_and_lot.ensures.1 in
+    let both = refused-by b k entering_as (first_nonzero (member_lot_tests b m l)) (number c.in_err-member_and_lot.field-0.0) tt (numbered c.from_residual-in_err-member_and_lot.result) c.in_err-member_and_lot.ensures
     (λ h. declines ∙ first_two range enrolled (bid_tests (lot_at b.lots l) bid) h) (ap numbered (p.1 ∙ ap Err p.2)) in
     record { answer = both.0; after = both.1 }
 

@@ -5,8 +5,8 @@ use Rattle.share.proofs.Answered.{unless-err}
 use Rattle.lot.proofs.Entries.{entered-err, room-left, next-taken, next-entered, next-number}
 use Rattle.lot.proofs.bids.Bids.enter.Goals as goal
 
-pub returns-in-err-admits : goal.returns-in-err-admits
-returns-in-err-admits c =
+pub returns-in_err-admits : goal.returns-in_err-admits
+returns-in_err-admits c =
     let e = c.in_err-admits.ensures in
     let p = err_from_is_err_and c.from_residual.result c.from_residual.ensures.1 in
     record { answer = rw (p.1, p.2) (unless-err _ _ tt _ e); after = entered-err _ c.args.bid _ e }

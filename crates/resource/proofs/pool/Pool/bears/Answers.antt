@@ -11,8 +11,8 @@ borne_at-requires c =
     let found = unless-ok _ _ _ c.in_ok-place.ensures in
     rw found.1 (payer-within (length (payers_of c.args.self.now)) c.args.payer found.0)
 
-pub returns-in-err-place : goal.returns-in-err-place
-returns-in-err-place c =
+pub returns-in_err-place : goal.returns-in_err-place
+returns-in_err-place c =
     let p = err_from_is_err_and c.from_residual.result c.from_residual.ensures.1 in
     record { value = rw (p.1, p.2) (unless-err _ _ (c.args.payer - 1) _ c.in_err-place.ensures); law = pool-law c.args.self.now }
 
