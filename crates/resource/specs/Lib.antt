@@ -2,4 +2,4 @@ pub mod Deposits
 pub mod Meaning
 pub mod Payers
 pub mod Pools
-pub mod Weights
+pub mod Totals

@@ -1,5 +1,5 @@
 -- The payers of a pool, by their weights. Assumes nothing.
-use Rattle.std.specs.Prelude.{ℕ, ◌<◌, ◌≤◌, Bool, true, false, cond, ◌||◌, List, [], ◌∷◌, map, length, nat_lt, slice_index}
+use Rattle.std.specs.Prelude.{ℕ, ◌<◌, ◌≤◌, Bool, false, cond, ◌||◌, List, [], ◌∷◌, map, length, nat_lt, slice_index}
 use Rattle.share.specs.declared.units.Dollars.{Dollars}
 
 -- the number that an amount is

@@ -6,9 +6,9 @@ use share::units::Dollars;
 
 // Has a resource stand for as much of an amount as it can, and says how much that is.
 pub fn fill<R: Resource>(resource: &mut R, amount: Dollars) -> Dollars
-    ensures value { result.0 ≡ min amount.0 (capacity resource.old) }
-    ensures after { standing resource.new ≡ min amount.0 (capacity resource.old) }
-    ensures same { capacity resource.new ≡ capacity resource.old }
+    ensures value { result.0 ≡ min amount.0 (R.capacity resource.old) }
+    ensures after { R.standing resource.new ≡ min amount.0 (R.capacity resource.old) }
+    ensures same { R.capacity resource.new ≡ R.capacity resource.old }
 {
     let most = resource.capacity();
     let filled = Dollars(amount.0.min(most.0));
@@ -18,16 +18,16 @@ pub fn fill<R: Resource>(resource: &mut R, amount: Dollars) -> Dollars
 
 // How much more a resource could stand for.
 pub fn free<R: Resource>(resource: &R) -> Dollars
-    ensures { result.0 ≡ capacity resource.now - standing resource.now }
+    ensures { result.0 ≡ R.capacity resource.now - R.standing resource.now }
 {
     Dollars(resource.capacity().0 - resource.standing().0)
 }
 
 // Writes a resource off, and says what it stood for.
 pub fn settle<R: Resource>(resource: &mut R) -> Dollars
-    ensures value { result.0 ≡ standing resource.old }
-    ensures lowers { capacity resource.new ≡ capacity resource.old - standing resource.old }
-    ensures clears { standing resource.new ≡ 0 }
+    ensures value { result.0 ≡ R.standing resource.old }
+    ensures lowers { R.capacity resource.new ≡ R.capacity resource.old - R.standing resource.old }
+    ensures clears { R.standing resource.new ≡ 0 }
 {
     let lost = resource.standing();
     resource.write_off();

@@ -2,7 +2,7 @@
 ghost use Rattle.std.specs.Prelude.{◌≡◌, ℕ};
 ghost use Rattle.resource.specs.Deposits.{deposit_refusal, paid_of, standing_of, fresh, as_made};
 ghost use Rattle.share.specs.Refusals.{numbered, unless};
-ghost use Rattle.std.proofs.Common.{rules, arith};
+ghost use Rattle.std.proofs.Common.{rules};
 
 use super::Deposit;
 use crate::resource::Resource;
@@ -31,9 +31,9 @@ impl Resource for Deposit {
 
     ghost standing = { standing_of };
 
-    ghost covered = { first_of (Prim.search rules, Prim.grind (arith, Self.row.coded.inj)) };
+    ghost covered = { Prim.search rules };
 
-    ghost bounded = { first_of (Prim.search rules, Prim.grind (arith, Self.row.coded.inj)) };
+    ghost bounded = { Prim.search rules };
 
     fn capacity(&self) -> Dollars {
         self.paid

@@ -5,8 +5,8 @@ ghost use Rattle.resource.specs.Payers.{weights_of, pool_refusal};
 ghost use Rattle.resource.specs.Pools.{payers_of, capacity_of, standing_of, payer_refusal, dollars_in, fresh, as_made, PoolLaw};
 ghost use Rattle.share.specs.Refusals.{numbered, unless};
 ghost use Rattle.share.specs.Rule.{share_of, lowered};
-ghost use Rattle.resource.specs.Weights.{pool-total};
-ghost use Rattle.std.proofs.Common.{rules, arith};
+ghost use Rattle.resource.specs.Totals.{pool-total};
+ghost use Rattle.std.proofs.Common.{rules};
 
 use super::Pool;
 use crate::resource::Resource;
@@ -97,9 +97,9 @@ impl Resource for Pool {
 
     ghost standing = { standing_of };
 
-    ghost covered = { first_of (Prim.search rules, Prim.grind (arith, Self.row.coded.inj)) };
+    ghost covered = { Prim.search rules };
 
-    ghost bounded = { λ x. pool-total x };
+    ghost bounded = { pool-total };
 
     fn capacity(&self) -> Dollars {
         self.capacity

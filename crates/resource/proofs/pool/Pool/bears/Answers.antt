@@ -1,9 +1,9 @@
-use Rattle.std.proofs.Common.{◌≡◌, ◌-◌, length, Ok, ap, ◌∙◌}
+use Rattle.std.proofs.Common.{◌-◌, length, Ok, ap, ◌∙◌}
 use Rattle.std.proofs.lemmas.Result.{err_from_is_err_and}
 use Rattle.share.proofs.Answered.{unless-ok, unless-err}
 use Rattle.share.specs.Rule.{share_of}
-use Rattle.resource.specs.Pools.{payers_of, standing_of, dollars_in}
-use Rattle.resource.specs.Weights.{payer-within, pool-law}
+use Rattle.resource.specs.Pools.{payers_of, standing_of}
+use Rattle.resource.proofs.Weights.{payer-within, pool-law}
 use Rattle.resource.proofs.pool.Pool.bears.Goals as goal
 
 pub borne_at-requires : goal.borne_at-requires

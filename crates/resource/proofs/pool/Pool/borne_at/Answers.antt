@@ -1,7 +1,7 @@
 use Rattle.std.proofs.Common.{length, ap, arith}
 use Rattle.std.proofs.lemmas.List.{length-map}
 use Rattle.resource.specs.Payers.{worth}
-use Rattle.resource.specs.Weights.{pool-total}
+use Rattle.resource.specs.Totals.{pool-total}
 use Rattle.resource.proofs.pool.Pool.borne_at.Goals as goal
 
 pub share-requires : goal.share-requires

@@ -1,5 +1,5 @@
 use Rattle.std.proofs.Common.{sym}
-use Rattle.resource.specs.Weights.{length-payers}
+use Rattle.resource.proofs.Weights.{length-payers}
 use Rattle.resource.proofs.pool.Pool.count.Goals as goal
 
 pub returns : goal.returns

@@ -1,9 +1,10 @@
-use Rattle.std.proofs.Common.{◌≡◌, ◌<◌, ◌≤◌, ◌⊎◌, length, get_or, take, Ok, sym, refl, ap, ◌∙◌, subst, inl, inr, ⊎_elim, arith, below_more}
+use Rattle.std.proofs.Common.{◌≡◌, ◌<◌, ◌≤◌, ◌⊎◌, length, get_or, take, Ok, sym, ap, ◌∙◌, subst, inl, inr, ⊎_elim, arith, below_more}
 use Rattle.std.proofs.lemmas.List.{length-map, length-set, get_or-map}
 use Rattle.share.specs.Rule.{total}
 use Rattle.resource.specs.Pools.{fresh}
 use Rattle.resource.specs.Payers.{Light, worth, weights_of}
-use Rattle.resource.specs.Weights.{light-total, copied_more, copied_all, heavy-at, light-heavy, count-refused, heavy-refused, light-taken}
+use Rattle.resource.specs.Totals.{light-total}
+use Rattle.resource.proofs.Weights.{copied_more, copied_all, heavy-at, light-heavy, count-refused, heavy-refused, light-taken}
 use Rattle.resource.proofs.pool.Pool.new.Goals as goal
 
 pub returns-then-payers-lt1 : goal.returns-then-payers-lt1
@@ -39,7 +40,14 @@ invariant_of-result c =
     let ps = c.args.payers.now in
     let full : take (length ps) c.loop-i.weights ≡ ps = copied_all c.loop-i.weights ps c.loop-i.i (omega arith) c.loop-i.invariant.1 in
     let light : Light (weights_of ps) = λ k h. let inside : k < length ps = rw length-map at h in c.loop-i.invariant.2 k (omega arith) in
-    (omega arith, (omega arith, (c.loop-i.invariant.0, (subst (λ ws. Light (weights_of ws)) (sym full) light, (c.sum.ensures ∙ ap (λ xs. total (weights_of xs)) (sym full), (omega arith, tt))))))
+    record {
+      some = omega arith;
+      few = omega arith;
+      whole = c.loop-i.invariant.0;
+      light = subst (λ ws. Light (weights_of ws)) (sym full) light;
+      summed = c.sum.ensures ∙ ap (λ xs. total (weights_of xs)) (sym full);
+      covered = omega arith;
+    }
 
 pub returns : goal.returns
 returns c =

@@ -1,7 +1,7 @@
-use Rattle.std.proofs.Common.{◌≡◌, ◌<◌, length, get_or, Ok, ap, ◌∙◌, arith}
+use Rattle.std.proofs.Common.{◌<◌, length, get_or, Ok, ap, ◌∙◌, arith}
 use Rattle.share.proofs.Answered.{unless-ok}
 use Rattle.resource.specs.Pools.{payers_of}
-use Rattle.resource.specs.Weights.{payer-within, length-payers, weight-at}
+use Rattle.resource.proofs.Weights.{payer-within, length-payers, weight-at}
 use Rattle.resource.proofs.pool.Pool.weight.Goals as goal
 
 pub bounds-self-place : goal.bounds-self-place

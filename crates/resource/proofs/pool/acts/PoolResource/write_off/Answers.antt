@@ -1,10 +1,9 @@
-use Rattle.std.proofs.Common.{◌≡◌, ℕ, ◌<◌, ◌≤◌, List, map, length, get_or, take, sym, refl, ap, ◌∙◌, subst, arith}
+use Rattle.std.proofs.Common.{◌≡◌, take, sym, refl, ap, ◌∙◌, subst, arith}
 use Rattle.std.proofs.lemmas.List.{length-set}
-use Rattle.std.specs.List.{range_with_len}
-use Rattle.share.specs.Rule.{total, left_of, lowered}
+use Rattle.share.specs.Rule.{total, lowered}
 use Rattle.share.proofs.Shares.{within-weight, lowers}
 use Rattle.resource.specs.Payers.{Light, weights_of}
-use Rattle.resource.specs.Weights.{length-weights, get_d_front, lowered-more, lowered-all, lowered-light}
+use Rattle.resource.proofs.Weights.{length-weights, get_d_front, lowered-more, lowered-all, lowered-light}
 use Rattle.resource.proofs.pool.acts.PoolResource.write_off.Goals as goal
 
 pub borne_at-requires : goal.borne_at-requires
@@ -36,7 +35,14 @@ invariant_of-self c =
     let long = length-weights p.count p.weights (omega arith) in
     let each : weights_of (take p.count c.loop-i.rest) ≡ lowered p.standing.0 ws =
     lowered-all c.loop-i.rest p.standing.0 ws c.loop-i.i p.count (omega arith) long c.loop-i.invariant.1 in
-    (p.some, (p.few, (c.loop-i.invariant.0, (subst Light (sym each) (lowered-light p.standing.0 ws p.light), (omega (arith, p.summed, ap total each, lowers p.standing.0 ws p.covered), (omega arith, tt))))))
+    record {
+      some = p.some;
+      few = p.few;
+      whole = c.loop-i.invariant.0;
+      light = subst Light (sym each) (lowered-light p.standing.0 ws p.light);
+      summed = omega (arith, p.summed, ap total each, lowers p.standing.0 ws p.covered);
+      covered = omega arith;
+    }
 
 pub returns : goal.returns
 returns c =

@@ -3,21 +3,15 @@ use Rattle.std.specs.Prelude.{◌≡◌, ℕ, zero, suc, ◌+◌, ◌-◌, ◌<�
 use Rattle.std.proofs.Common.{sym, ap, subst, ◌∙◌, inl, inr, zero-add, arith}
 use Rattle.std.specs.List.{range_with_len}
 use Rattle.std.proofs.lemmas.List.FromFn.{length-map-range_with_len, get_or-map-range_with_len, map-range_with_len_more}
-use Rattle.std.proofs.ByRecursion.{All-from_get_or, sum_by_le}
 use Rattle.std.proofs.lemmas.List.{length-map, length-take, take_all, take-map, take_more, take_more_set, map-set, get_or-map, get_or-take}
 use Rattle.std.proofs.lemmas.Bool.Decides.{nat_tests}
 use Rattle.std.proofs.lemmas.Bool.{or_left, or_right, or_from, lt-ltb, le-ltb}
-use Rattle.share.specs.Rule.{total, left_of, lowered}
+use Rattle.share.specs.Rule.{left_of, lowered}
 use Rattle.resource.specs.Payers.{Light, heavy, most_weight, pool_refusal, worth, weights_of}
 use Rattle.share.proofs.Shares.{adds_up_within, within-weight, near, nothing, lowers}
 use Rattle.resource.specs.Pools.{payers_of, standing_of, payer_refusal, PoolLaw}
 use Rattle.resource.specs.declared.pool.Pool.{Pool}
 use Rattle.share.specs.declared.units.Dollars.{Dollars}
-
-pub light-total : (ws : List ℕ) → Light ws → length ws ≤ 32 → total ws ≤ 3200000000
-light-total ws light few =
-    let most = sum_by_le (λ x. x) 100000000 ws (All-from_get_or (λ x. x ≤ 100000000) ws 0 light) in
-    omega arith
 
 pub lowered-light : (a : ℕ) (ws : List ℕ) → Light ws → Light (lowered a ws)
 lowered-light a ws light k h =
@@ -28,11 +22,6 @@ lowered-light a ws light k h =
 -- the first n weights of an array
 pub length-weights : (n : ℕ) (ws : List Dollars) → n ≤ length ws → length (weights_of (take n ws)) ≡ n
 length-weights n ws h = simp (length-map, length-take) (omega arith)
-
-pub front-total : (n : ℕ) (ws : List Dollars) → n ≤ 32 → Light (weights_of (take n ws)) → total (weights_of (take n ws)) ≤ 3200000000
-front-total n ws few light =
-    let short : length (weights_of (take n ws)) ≤ 32 = simp (length-map, length-take) (omega arith) in
-    light-total (weights_of (take n ws)) light short
 
 pub get_d_front : (n : ℕ) (ws : List Dollars) (i : ℕ) → i < n → n ≤ length ws → slice_index (weights_of (take n ws)) i ≡ (get_or ws i (record { 0 = 0 })).0
 get_d_front n ws i h long =
@@ -77,12 +66,9 @@ pub light-heavy : (ws : List ℕ) → Light ws → heavy ws ≡ false
 light-heavy [] light = refl
 light-heavy (w ∷ ws) light = or_from (nat_lt most_weight w) (heavy ws) (le-ltb most_weight w (light 0 (omega arith))) (light-heavy ws (λ k h. light (suc k) (omega arith)))
 
--- a pool has as many weights as payers, and their sum is within the limit of a resource
+-- a pool has as many weights as payers
 pub length-payers : (p : Pool) → length (payers_of p) ≡ p.count
 length-payers p = length-weights p.count p.weights (omega (arith, p.few, p.whole))
-
-pub pool-total : (p : Pool) → total (payers_of p) ≤ 3200000000
-pool-total p = front-total p.count p.weights p.few p.light
 
 -- which pools are refused
 pub count-refused : (ws : List ℕ) → (length ws < 1) ⊎ (32 < length ws) → pool_refusal ws ≡ 5
