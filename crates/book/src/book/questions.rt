@@ -16,8 +16,8 @@ use share::units::{Dollars, Parts};
 
 // What a seat's resource can stand for, and what it stands for.
 fn seat_of<R: Resource>(resource: &R) -> Seat
-    ensures capacity { result.capacity.0 ≡ capacity resource.now }
-    ensures standing { result.standing.0 ≡ standing resource.now }
+    ensures capacity { result.capacity.0 ≡ R.capacity resource.now }
+    ensures standing { result.standing.0 ≡ R.standing resource.now }
 {
     Seat {
         capacity: resource.capacity(),

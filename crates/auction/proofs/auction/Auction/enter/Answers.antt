@@ -51,4 +51,8 @@ invariant_of-self c =
     let n = first_nonzero (bid_tests l b) in
     let y = left_by n l (entering b l) in
     let same = ap total (same-weights self.lots c.enter_in.new.lots self.count i y c.if-i-self.false c.enter_in.ensures.after (same-terms n l b)) in
-    (same_length self.lots c.enter_in.new.lots i y c.enter_in.ensures.after ∙ self.rooms, (self.few, (omega (arith, same, self.shared), tt)))
+    record {
+      rooms = same_length self.lots c.enter_in.new.lots i y c.enter_in.ensures.after ∙ self.rooms;
+      few = self.few;
+      shared = omega (arith, same, self.shared);
+    }

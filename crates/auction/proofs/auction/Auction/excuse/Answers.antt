@@ -24,4 +24,8 @@ invariant_of-self c =
     let i = c.index-i.result in
     let y = excusing c.args.member (get_or (map listing_of self.lots) i unlisted) in
     let same = ap total (same-weights self.lots c.excuse_from.new.lots self.count i y c.if-i-self.true c.excuse_from.ensures refl) in
-    (same_length self.lots c.excuse_from.new.lots i y c.excuse_from.ensures ∙ self.rooms, (self.few, (omega (arith, same, self.shared), tt)))
+    record {
+      rooms = same_length self.lots c.excuse_from.new.lots i y c.excuse_from.ensures ∙ self.rooms;
+      few = self.few;
+      shared = omega (arith, same, self.shared);
+    }

@@ -36,4 +36,8 @@ invariant_of-result c =
     let end : c.from-count.result ≡ c.loop-i.i = omega (arith, c.loop-i-test.false, c.loop-i.auto.i-end) in
     let same : lot_weights (map listing_of (take c.from-count.result c.loop-i.lots)) ≡ map (λ (t : Terms). t.weight) (take c.loop-i.i o.terms) =
     ap (λ n. lot_weights (map listing_of (take n c.loop-i.lots))) end ∙ ap lot_weights c.loop-i.invariant.1 ∙ weights-opened (take c.loop-i.i o.terms) in
-    (c.loop-i.invariant.0, (omega (arith, c.from-count.ensures, c.if-offer-gt-MOST_LOTS.false), (omega (arith, ap total same, c.loop-i.invariant.3, c.if-weights-ne-ALL_WEIGHTS.false), tt)))
+    record {
+      rooms = c.loop-i.invariant.0;
+      few = omega (arith, c.from-count.ensures, c.if-offer-gt-MOST_LOTS.false);
+      shared = omega (arith, ap total same, c.loop-i.invariant.3, c.if-weights-ne-ALL_WEIGHTS.false);
+    }

@@ -10,7 +10,10 @@ invariant_of-self c =
     let self = c.args.self.now in
     let i = c.index-i.result in
     let entry = c.args.entry in
-    (length-set self.places i (record { 0 = entry }) ∙ self.whole, (subst Funded (sym (map-set held self.places i (record { 0 = entry }))) (funded-set (map held self.places) i entry c.requires.fund c.requires.assessment self.funded), tt))
+    record {
+      whole = length-set self.places i (record { 0 = entry }) ∙ self.whole;
+      funded = subst Funded (sym (map-set held self.places i (record { 0 = entry }))) (funded-set (map held self.places) i entry c.requires.fund c.requires.assessment self.funded);
+    }
 
 pub returns-then-i-lt32 : goal.returns-then-i-lt32
 returns-then-i-lt32 c = put_in c.args.self.now.places c.args.member c.index-i.result c.args.entry c.index-i.ensures
