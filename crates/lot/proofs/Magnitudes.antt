@@ -1,5 +1,5 @@
 -- How far integers are from 0, and what fits a width by that. Assumes nothing.
-use Rattle.std.proofs.Common.{◌≡◌, ℕ, zero, suc, ◌+◌, ◌-◌, ◌*◌, ◌/◌, ◌^◌, ◌<◌, ◌≤◌, ltb, ℤ, pos, negsuc, ◌+ℤ◌, ◌*ℤ◌, neg_ℤ, nat_abs, sym, refl, ap, ◌∙◌, mul-le-mul_right, mul_comm, div-lt_iff_lt-mul, arith, w32, w64, SFits}
+use Rattle.std.proofs.Common.{◌≡◌, ℕ, zero, suc, ◌+◌, ◌-◌, ◌*◌, ◌^◌, ◌<◌, ◌≤◌, ltb, ℤ, pos, negsuc, ◌+ℤ◌, ◌*ℤ◌, neg_ℤ, nat_abs, refl, ap, ◌∙◌, mul-le-mul_right, mul_comm, div-lt_iff_lt-mul, arith, w32, w64, SFits}
 use native.Mathlib.Nat.{div-le_of_le-mul}
 use lib.IntN.{sub_ℕ, negsuc-*ℤ-pos}
 use Rattle.std.proofs.lemmas.Bool.{cond_both, ltb-true}

@@ -5,7 +5,6 @@ use lib.Signed.{lt_z, le_z}
 use Rattle.std.proofs.lemmas.Int.{ints, to_z-of_z}
 use Rattle.lot.proofs.Magnitudes.{fits-64}
 use Rattle.lot.specs.Class.{natural, senior_threshold, subordinate_threshold, by_price}
-use Rattle.lot.specs.declared.class.Class.{Class}
 use Rattle.lot.specs.declared.class.Class.TheVariants.{Senior, Split, Subordinate}
 
 -- a Split's BP is neither above the senior nor below the subordinate threshold

@@ -1,5 +1,5 @@
 -- Price × parts over the bids of a lot: how large it gets. Assumes nothing.
-use Rattle.std.proofs.Common.{◌≡◌, ℕ, ◌+◌, ◌-◌, ◌*◌, ◌^◌, ◌<◌, ◌≤◌, List, [], ◌∷◌, length, get_or, take, ℤ, pos, ◌+ℤ◌, ◌*ℤ◌, nat_abs, Some, sym, refl, ap, ◌∙◌, mul-le-mul_right, mul-le-mul_left, mul-add, arith, w64, SFits}
+use Rattle.std.proofs.Common.{◌≡◌, ℕ, ◌+◌, ◌-◌, ◌*◌, ◌<◌, ◌≤◌, List, [], ◌∷◌, length, get_or, take, pos, ◌+ℤ◌, ◌*ℤ◌, nat_abs, Some, ap, ◌∙◌, mul-le-mul_right, arith, w64, SFits}
 use Rattle.std.proofs.ByRecursion.{All-take, all-has}
 use Rattle.std.proofs.lemmas.List.{take_all}
 use Rattle.std.proofs.lemmas.List.Sums.{fold_more, sum_by-cons}

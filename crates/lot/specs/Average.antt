@@ -1,5 +1,5 @@
 -- The average price of a member in a lot, its BP. Assumes nothing.
-use Rattle.std.specs.Prelude.{◌≡◌, ℕ, zero, suc, ◌+◌, ◌-◌, ◌/◌, ◌≤◌, cond, List, [], ◌∷◌, ℤ, pos, negsuc, ◌+ℤ◌, ◌*ℤ◌, ◌≤ℤ◌, ◌<ℤ◌, is_some, Some, None, fold, Option, nat_le}
+use Rattle.std.specs.Prelude.{◌≡◌, ℕ, zero, suc, ◌-◌, ◌/◌, ◌≤◌, List, [], ◌∷◌, ℤ, pos, negsuc, ◌+ℤ◌, ◌*ℤ◌, ◌≤ℤ◌, ◌<ℤ◌, is_some, Some, None, fold, Option, nat_le}
 use Rattle.share.specs.Rule.{total}
 use Rattle.lot.specs.Bids.{offered, all_offered}
 use Rattle.lot.specs.Price.{better, reached, all_or_nothing_price}

@@ -1,6 +1,6 @@
 -- Which bids a lot takes. Assumes nothing.
-use Rattle.std.specs.Prelude.{◌≡◌, ℕ, zero, suc, ◌+◌, Bool, true, false, cond, not, ◌&&◌, ◌||◌, List, [], ◌∷◌, ◌++◌, length, ℤ, pos, negsuc, is_some, Ok, Err, Result, ◌==◌, int_lt, nat_le, nat_lt}
-use Rattle.lot.specs.Bids.{whole, is_standard, all_or_nothing_of}
+use Rattle.std.specs.Prelude.{ℕ, Bool, true, cond, not, ◌&&◌, ◌||◌, List, [], ◌∷◌, ◌++◌, length, ℤ, pos, negsuc, is_some, ◌==◌, int_lt, nat_le, nat_lt}
+use Rattle.lot.specs.Bids.{whole, is_standard}
 use Rattle.lot.specs.Price.{all_or_nothing_price}
 use Rattle.lot.specs.declared.bid.Bid.{Bid}
 use Rattle.lot.specs.declared.bid.Whose.TheVariants.{One}

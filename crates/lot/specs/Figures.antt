@@ -1,5 +1,5 @@
 -- Worked figures about the definitions, by computation. Assumes nothing.
-use Rattle.std.specs.Prelude.{◌≡◌, ℕ, List, [], ◌∷◌, ℤ, pos, negsuc, Some, None, Option}
+use Rattle.std.specs.Prelude.{◌≡◌, ℕ, List, [], ◌∷◌, pos, negsuc, Some, None}
 use Rattle.share.specs.Rule.{shares_of}
 use Rattle.lot.specs.Allocation.{allocations}
 use Rattle.lot.specs.Average.{worth_down_to, best_price}

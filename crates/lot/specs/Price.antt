@@ -1,5 +1,5 @@
 -- The price that the bids of a lot make. Assumes nothing.
-use Rattle.std.specs.Prelude.{◌≡◌, ℕ, ◌≤◌, Bool, true, false, cond, ◌&&◌, ◌⊎◌, List, [], ◌∷◌, ◌≤ℤ◌, Some, None, Option, int_lt, nat_le}
+use Rattle.std.specs.Prelude.{◌≡◌, ℕ, ◌≤◌, Bool, false, cond, ◌&&◌, ◌⊎◌, List, [], ◌∷◌, ◌≤ℤ◌, Some, None, Option, int_lt, nat_le}
 use Rattle.std.specs.List.{ContainsAt as Has}
 use Rattle.lot.specs.Bids.{whole, is_standard, standard_of, all_or_nothing_of, asked, all_asked}
 use Rattle.lot.specs.declared.bid.Bid.{Bid}

@@ -1,4 +1,4 @@
-use Rattle.std.proofs.Common.{◌≡◌, ap, ◌∙◌}
+use Rattle.std.proofs.Common.{ap, ◌∙◌}
 use Rattle.lot.specs.Bids.{all_or_nothing_of}
 use Rattle.lot.specs.Price.{all_or_nothing_price}
 use Rattle.lot.proofs.Steps.{greatest-more, greatest-all}

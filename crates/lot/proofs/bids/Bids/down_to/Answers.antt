@@ -1,10 +1,9 @@
-use Rattle.std.proofs.Common.{◌≡◌, ◌+◌, ◌-◌, ◌<◌, ◌≤◌, map, length, get_or, take, sym, ap, ◌∙◌, subst, ap₂, arith}
+use Rattle.std.proofs.Common.{◌≡◌, ◌+◌, ◌-◌, ◌<◌, ◌≤◌, map, length, take, sym, ap, ◌∙◌, subst, ap₂, arith}
 use native.Mathlib.Nat.{sub-zero}
 use Rattle.std.proofs.lemmas.List.{length-set, length-map, length-take, take_all, get_or-take}
 use Rattle.share.specs.Rule.{share_of}
 use Rattle.lot.specs.Allotments.{numbers}
 use Rattle.lot.specs.Lots.{entries_of}
-use Rattle.lot.specs.Rungs.{rung}
 use Rattle.lot.specs.declared.bids.rung.Rung.{Rung}
 use Rattle.lot.proofs.Filled.{no_rung, filled, filled_more, filled_is, length-filled, rungs-light, rungs-within, above-small, length-entries}
 use Rattle.lot.proofs.bids.Bids.down_to.Goals as goal

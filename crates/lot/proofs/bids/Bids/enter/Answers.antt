@@ -16,7 +16,7 @@ invariant_of-self c =
     let e = c.in_ok-admits.ensures in
     let lot = c.args.self.now in
     let b = c.args.bid in
-    (omega (arith, room-left lot b e), (simp length-set lot.long, (next-taken lot b e, tt)))
+    record { few = omega (arith, room-left lot b e); long = simp length-set lot.long; taken = next-taken lot b e }
 
 pub returns : goal.returns
 returns c =

@@ -1,4 +1,4 @@
-use Rattle.std.proofs.Common.{◌≡◌, sym, ◌∙◌, subst}
+use Rattle.std.proofs.Common.{sym, ◌∙◌, subst}
 use Rattle.lot.specs.Lots.{entries_of}
 use Rattle.lot.specs.Price.{PriceLaw}
 use Rattle.lot.proofs.Prices.{price_law}

@@ -1,4 +1,4 @@
-use Rattle.std.proofs.Common.{◌≡◌, ap, ◌∙◌}
+use Rattle.std.proofs.Common.{ap, ◌∙◌}
 use Rattle.lot.specs.Price.{reaches, reached}
 use Rattle.lot.proofs.Steps.{greatest-more, greatest-all}
 use Rattle.lot.proofs.bids.Bids.reached.Goals as goal

@@ -1,4 +1,4 @@
-use Rattle.std.proofs.Common.{◌≡◌, ◌+◌, take, ◌+ℤ◌, sym, ◌∙◌, ap₂, w64, SFits, to_z, of_z}
+use Rattle.std.proofs.Common.{◌≡◌, ◌+◌, take, ◌+ℤ◌, sym, ◌∙◌, ap₂, w64, to_z, of_z}
 use Rattle.std.proofs.lemmas.Int.{to_z-of_z}
 use Rattle.lot.specs.Average.{all_worth_above}
 use Rattle.lot.proofs.Worths.{worth-fits, worth-more, worth-all}

@@ -1,4 +1,4 @@
-use Rattle.std.proofs.Common.{◌≡◌, ℕ, ◌*◌, ◌/◌, ◌≤◌, ℤ, pos, ◌-ℤ◌, nat_abs, sym, ap, ◌∙◌, ap₂, arith, w32, w64, Fits, SFits, to_z, of_z, rules}
+use Rattle.std.proofs.Common.{◌≡◌, ◌*◌, ◌/◌, ◌≤◌, ◌-ℤ◌, nat_abs, ap, ◌∙◌, ap₂, arith, w32, w64, Fits, SFits, to_z, of_z, rules}
 use Rattle.std.proofs.lemmas.Int.{to_z-of_z}
 use Rattle.lot.specs.Class.{natural, subordinate_threshold}
 use Rattle.lot.proofs.Splits.{distance_read, distance-small, part-at-most}
