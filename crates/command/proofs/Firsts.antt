@@ -3,7 +3,7 @@ use Rattle.std.proofs.Common.{◌≡◌, ℕ, zero, suc, ◌≤◌, Bool, true, 
 use Rattle.std.proofs.lemmas.Slice.Eq.{bytes_eq-Decides}
 use Rattle.std.proofs.lemmas.Bool.{leb-true}
 use Rattle.std.specs.Option.{option_map}
-use Rattle.std.specs.List.{AllByRecursion as All}
+use Rattle.std.specs.List.{AllByRecursion}
 use Rattle.std.specs.Str.{bytes_eq}
 use Rattle.share.specs.declared.units.Dollars.{Dollars}
 use Rattle.lot.specs.declared.bid.Kind.{Kind}
@@ -88,7 +88,7 @@ enrol-named rest = keeps-each (Named (codes "enrol")) _ _ (λ h. keeps-ok (Named
 top-up-named : (rest : List ℕ) → Keeps (Named (codes "top-up")) (top_up_of rest)
 top-up-named rest = keeps-each (Named (codes "top-up")) _ _ (λ h. keeps-ok (Named (codes "top-up")) _ refl)
 
-orders-named : (rest : List ℕ) → All Rowed (orders rest)
+orders-named : (rest : List ℕ) → AllByRecursion Rowed (orders rest)
 orders-named rest = (
   by-each (codes "house") _ _ (λ n. refl),
   (
@@ -121,7 +121,7 @@ orders-named rest = (
   ),
 )
 
-questions-named : (rest : List ℕ) → All Rowed (questions rest)
+questions-named : (rest : List ℕ) → AllByRecursion Rowed (questions rest)
 questions-named rest = (
   by_count (codes "phase") rest _ refl,
   (
@@ -148,7 +148,7 @@ questions-named rest = (
   ),
 )
 
-by_rows : (word : List ℕ) (rows : List (List ℕ × Result Command Fault)) (last : Result Command Fault) → All Rowed rows → Keeps (λ c. Begins c word) last → Keeps (λ c. Begins c word) (choose word rows last)
+by_rows : (word : List ℕ) (rows : List (List ℕ × Result Command Fault)) (last : Result Command Fault) → AllByRecursion Rowed rows → Keeps (λ c. Begins c word) last → Keeps (λ c. Begins c word) (choose word rows last)
 by_rows word [] last h k c e = k c e
 by_rows word (row ∷ rows) last h k c e =
     let Goes : Bool → Type 0 = λ t. cond t row.1 (choose word rows last) ≡ Ok c → Begins c word in

@@ -6,7 +6,7 @@ use Rattle.std.proofs.lemmas.Bool.{and_parts}
 use Rattle.std.proofs.lemmas.Str.{IsUtf8-from_ascii}
 use Rattle.std.proofs.lemmas.Bool.Decides.{nat_tests}
 use Rattle.std.specs.Result.{result_unwrap_or}
-use Rattle.std.specs.List.{AllByRecursion as All}
+use Rattle.std.specs.List.{AllByRecursion}
 use Rattle.std.specs.Str.{bytes_eq}
 use Rattle.command.specs.Commands.{choose}
 use Rattle.command.specs.Steps.{SameNames, plain}
@@ -20,12 +20,12 @@ differs xs ys h =
     go (bytes_eq xs ys) refl
 
 -- a name that is none of a table's
-pub missed : {A : Type 0} (name : List ℕ) (rows : List (List ℕ × A)) (last : A) → All (λ row. name ≡ row.0 → ⊥) rows → last ≡ choose name rows last
+pub missed : {A : Type 0} (name : List ℕ) (rows : List (List ℕ × A)) (last : A) → AllByRecursion (λ row. name ≡ row.0 → ⊥) rows → last ≡ choose name rows last
 missed name [] last h = refl
 missed name (row ∷ rows) last h = rw (differs name row.0 h.0) (missed name rows last h.1)
 
 -- such bytes are text
-plain-ascii : (bytes : List ℕ) → plain bytes ≡ true → All (λ b. b < 128) bytes
+plain-ascii : (bytes : List ℕ) → plain bytes ≡ true → AllByRecursion (λ b. b < 128) bytes
 plain-ascii [] h = tt
 plain-ascii (b ∷ bytes) h =
     let parts = and_parts (ltb b 128) (plain bytes) h in

@@ -2,7 +2,7 @@
 use Rattle.std.proofs.Common.{◌≡◌, ℕ, ◌*◌, ◌/◌, ◌%◌, ◌^◌, ◌<◌, Bool, true, false, ◌&&◌, eqb, List, [], ◌∷◌, length, take, ℤ, Ok, codes, decimal, Result, refl, ap, ◌∙◌, arith, rules}
 use Rattle.std.proofs.lemmas.Bool.{and_parts, eq-eqb, ne_eqb, not-true}
 use Rattle.std.specs.Fmt.{signed_decimal}
-use Rattle.std.specs.List.{AllByRecursion as All}
+use Rattle.std.specs.List.{AllByRecursion}
 use Rattle.share.specs.declared.units.Dollars.{Dollars}
 use Rattle.lot.specs.declared.bid.Kind.{Kind}
 use Rattle.lot.specs.declared.bid.Kind.TheVariants.{Standard, AllOrNothing}
@@ -66,7 +66,7 @@ kind-back Standard = refl
 kind-back AllOrNothing = refl
 
 -- a line with so many words goes on
-goes : {A : Type 0} (n : ℕ) (ws : List (List ℕ)) (r : Result A Fault) → All Word ws → length ws ≡ n → counted n (spaced ws) r ≡ r
+goes : {A : Type 0} (n : ℕ) (ws : List (List ℕ)) (r : Result A Fault) → AllByRecursion Word ws → length ws ≡ n → counted n (spaced ws) r ≡ r
 goes n ws r h e = rw (eq-eqb (word_count (spaced ws)) n (written_count ws h ∙ e))
 
 -- the words of commands are read back
@@ -121,13 +121,13 @@ terms-back t ws h =
     let fp = written (decimal t.pri) ws (decimal-word t.pri (omega (arith, h.2))) in
     (rw (fw.0, fw.1, fr.0, fr.1, fp.0, number-back t.weight h.0, number-back t.requirement h.1, pri-back t.pri h.2), rw (fw.1, fr.1, fp.1))
 
-lots-back : (ts : List Terms) → All Sized ts → lots_by (length ts) (spaced (lots_words ts)) ≡ Ok ts
+lots-back : (ts : List Terms) → AllByRecursion Sized ts → lots_by (length ts) (spaced (lots_words ts)) ≡ Ok ts
 lots-back [] h = refl
 lots-back (t ∷ ts) h =
     let first = terms-back t (lots_words ts) h.0 in
     rw (first.0, first.1, lots-back ts h.1)
 
-lots-are-words : (ts : List Terms) → All Sized ts → All Word (lots_words ts)
+lots-are-words : (ts : List Terms) → AllByRecursion Sized ts → AllByRecursion Word (lots_words ts)
 lots-are-words [] h = tt
 lots-are-words (t ∷ ts) h = (short-word t.weight h.0.0, (short-word t.requirement h.0.1, (decimal-word t.pri (omega (arith, h.0.2)), lots-are-words ts h.1)))
 
@@ -135,7 +135,7 @@ three : (ts : List Terms) → length (lots_words ts) ≡ length ts * 3
 three [] = refl
 three (t ∷ ts) = omega (arith, three ts)
 
-pub offer-back : (ts : List Terms) → 0 < length ts → All Sized ts → offer_of (spaced (lots_words ts)) ≡ Ok (offering ts)
+pub offer-back : (ts : List Terms) → 0 < length ts → AllByRecursion Sized ts → offer_of (spaced (lots_words ts)) ≡ Ok (offering ts)
 offer-back ts some h =
     let words : word_count (spaced (lots_words ts)) ≡ length ts * 3 = written_count (lots_words ts) (lots-are-words ts h) ∙ three ts in
     let any : eqb (length ts * 3) 0 ≡ false = ne_eqb (length ts * 3) 0 (λ e. omega arith) in
@@ -172,5 +172,5 @@ asks (question.Bears m s) h = begins (codes "bears") (decimal m ∷ decimal s �
 pub houses : (d : Dollars) → Long d → command_of (spaced (codes "house" ∷ amount d ∷ [])) ≡ Ok (command.House d)
 houses d h = begins (codes "house") (amount d ∷ []) refl (omega arith) refl ∙ rw (one_amount-back d h)
 
-pub opens : (lots : List Terms) → 0 < length lots → All Sized lots → command_of (spaced (codes "open" ∷ lots_words lots)) ≡ Ok (command.Call (call.Open (offering lots)))
+pub opens : (lots : List Terms) → 0 < length lots → AllByRecursion Sized lots → command_of (spaced (codes "open" ∷ lots_words lots)) ≡ Ok (command.Call (call.Open (offering lots)))
 opens lots some h = begins (codes "open") (lots_words lots) refl (omega arith) refl ∙ rw (offer-back lots some h)

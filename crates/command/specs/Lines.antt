@@ -1,7 +1,7 @@
 -- How commands are written. Assumes nothing.
 use Rattle.std.specs.Prelude.{◌≡◌, ℕ, ◌^◌, ◌<◌, ◌≤◌, true, List, [], ◌∷◌, take, codes, decimal}
 use Rattle.std.specs.Fmt.{signed_decimal}
-use Rattle.std.specs.List.{AllByRecursion as All}
+use Rattle.std.specs.List.{AllByRecursion}
 use Rattle.share.specs.declared.units.Dollars.{Dollars}
 use Rattle.lot.specs.declared.bid.Kind.{Kind}
 use Rattle.lot.specs.declared.bid.Kind.TheVariants.{Standard, AllOrNothing}
@@ -103,7 +103,7 @@ abbrev pub Writable : Call → Type 0
 Writable (call.Enrol m f a) = Short m × Long f × Long a
 Writable (call.TopUp m f a) = Short m × Long f × Long a
 Writable (call.Release m) = Short m
-Writable (call.Open o) = (0 < o.count) × (o.count ≤ 4) × All Sized (take o.count o.terms)
+Writable (call.Open o) = (0 < o.count) × (o.count ≤ 4) × AllByRecursion Sized (take o.count o.terms)
 Writable (call.Excuse m l) = Short m × Short l
 Writable (call.Bid m l k n p) = Short m × Short l × Short n × Fits32 p
 Writable call.Close = Unit {0}

@@ -4,7 +4,7 @@ use Rattle.std.proofs.ByRecursion.{All-weaker}
 use Rattle.std.proofs.lemmas.List.{at_drop_more, nil_from_length, take-append-drop, take_at, drop_at}
 use Rattle.std.proofs.lemmas.Bool.{eqb-true, ne_eqb, not-true, not-false, not_from_false}
 use Rattle.std.proofs.lemmas.Bool.Decides.{nat_tests}
-use Rattle.std.specs.List.{prefix_len, AllByRecursion as All}
+use Rattle.std.specs.List.{prefix_len, AllByRecursion}
 use Rattle.words.specs.Laws.{Blank, Solid, Ended, Word}
 use Rattle.words.specs.Words.{blank, solid, blanks_of, from_word, word_of, after_word, word_at, no_word, has_words, begun, word_count, spaced}
 
@@ -14,10 +14,10 @@ Stops p [] = Unit {0}
 Stops p (x ∷ xs) = p x ≡ false
 
 abbrev Front : (ℕ → Bool) → ℕ → List ℕ → ℕ → Type 0
-Front p x xs n = All (λ b. p b ≡ true) (take n (x ∷ xs)) × Stops p (drop n (x ∷ xs))
+Front p x xs n = AllByRecursion (λ b. p b ≡ true) (take n (x ∷ xs)) × Stops p (drop n (x ∷ xs))
 
 -- the longest front that passes a test passes it, and what is left does not begin with a byte that does
-pub front : (p : ℕ → Bool) (xs : List ℕ) → All (λ b. p b ≡ true) (take (prefix_len p xs) xs) × Stops p (drop (prefix_len p xs) xs)
+pub front : (p : ℕ → Bool) (xs : List ℕ) → AllByRecursion (λ b. p b ≡ true) (take (prefix_len p xs) xs) × Stops p (drop (prefix_len p xs) xs)
 front p [] = (tt, tt)
 front p (x ∷ xs) =
     let more : p x ≡ true → Front p x xs (1 + prefix_len p xs) =
@@ -29,7 +29,7 @@ front p (x ∷ xs) =
     go (p x) refl
 
 -- bytes that pass, and then one that fails: the front is those that pass
-pub front-only : (p : ℕ → Bool) (xs ys : List ℕ) → All (λ b. p b ≡ true) xs → Stops p ys → prefix_len p (xs ++ ys) ≡ length xs
+pub front-only : (p : ℕ → Bool) (xs ys : List ℕ) → AllByRecursion (λ b. p b ≡ true) xs → Stops p ys → prefix_len p (xs ++ ys) ≡ length xs
 front-only p [] [] h s = refl
 front-only p [] (y ∷ ys) h s = rw s
 front-only p (x ∷ xs) ys h s = rw (h.0, one-add) (ap suc (front-only p xs ys h.1 s))
@@ -55,7 +55,7 @@ stops : (xs : List ℕ) → Ended xs → Stops solid xs
 stops [] s = tt
 stops (x ∷ xs) s = rw s
 
-solids : (xs : List ℕ) → Solid xs → All (λ b. solid b ≡ true) xs
+solids : (xs : List ℕ) → Solid xs → AllByRecursion (λ b. solid b ≡ true) xs
 solids xs h = All-weaker (λ b. blank b ≡ false) (λ b. solid b ≡ true) (λ b e. not_from_false (blank b) e) xs h
 
 begins : (word rest : List ℕ) → Solid word → 0 < length word → Stops blank (word ++ rest)
@@ -171,7 +171,7 @@ spaced-ended (w ∷ ws) = refl
 pub written : (w : List ℕ) (ws : List (List ℕ)) → Word w → (word_of (spaced (w ∷ ws)) ≡ w) × (after_word (spaced (w ∷ ws)) ≡ spaced ws)
 written w ws h = only (32 ∷ []) w (spaced ws) (refl, tt) h.0 h.1 (spaced-ended ws)
 
-pub written_count : (ws : List (List ℕ)) → All Word ws → word_count (spaced ws) ≡ length ws
+pub written_count : (ws : List (List ℕ)) → AllByRecursion Word ws → word_count (spaced ws) ≡ length ws
 written_count [] h = refl
 written_count (w ∷ ws) h =
     let cut = written w ws h.0 in

@@ -1,5 +1,5 @@
 -- Reading a number digit by digit. Assumes nothing.
-use Rattle.std.proofs.Common.{◌≡◌, ℕ, suc, ◌+◌, ◌-◌, ◌*◌, ◌^◌, ◌<◌, ◌≤◌, true, false, cond, ◌&&◌, eqb, leb, List, [], ◌∷◌, length, get_or, drop, ℤ, pos, negsuc, neg_ℤ, Some, None, decimal, fold, Option, refl, ◌∙◌, arith, rules}
+use Rattle.std.proofs.Common.{◌≡◌, ℕ, suc, ◌+◌, ◌-◌, ◌*◌, ◌^◌, ◌<◌, ◌≤◌, true, false, cond, ◌&&◌, eqb, leb, List, [], ◌∷◌, length, get_or, drop, ℤ, pos, negsuc, Some, None, decimal, fold, Option, refl, ◌∙◌, arith, rules}
 use lib.Signed.{mag}
 use Rattle.std.proofs.lemmas.Fmt.{digits_decimal, digits_value-decimal, decimal_nonempty}
 use Rattle.std.proofs.lemmas.Str.Parse.{IsNumeralModel, numerals_by_fold, tells_all_ascii_digits}
@@ -56,11 +56,6 @@ ends most n bytes i h within = at_drop_all (reading most n) bytes i h ∙ rw (le
 -- what is read is within the limit
 pub within : (most n : ℕ) (word : List ℕ) → Some n ≡ natural_upto most word → n ≤ most
 within most n word e = grind (arith, nat_tests)
-
--- a word that begins with `-`
-pub minus : (word : List ℕ) → get_or word 0 0 ≡ 45 → signed_of word ≡ option_map (λ n. neg_ℤ (pos n)) (natural_upto 2147483648 (drop 1 word))
-minus [] e = absurd (omega arith)
-minus (b ∷ bytes) e = rw e
 
 -- these are the words of std for digits and their number
 own : IsNumeralModel (λ ds. all_ascii_digits ds ≡ true) value
