@@ -1,6 +1,6 @@
 -- Arrays that are filled from the front. Assumes nothing.
 use Rattle.std.proofs.Common.{◌≡◌, ℕ, ◌+◌, ◌<◌, ◌≤◌, List, [], ◌∷◌, ◌++◌, map, length, get_or, take, set, sym, ap, ◌∙◌, subst, ap₂, arith}
-use Rattle.std.proofs.lemmas.List.{length-map, length-take-le, get_or-map, take_more, take_more_set, take_all}
+use Rattle.std.proofs.lemmas.List.{length-map, get_or-map, take_more, take_more_set, take_all}
 
 module _ {X : Type 0} (ys : List X) where
   -- one element more

@@ -1,8 +1,8 @@
 -- The parts of an amount by what its member earned in each lot. Assumes nothing.
-use Rattle.std.proofs.Common.{◌≡◌, ℕ, zero, suc, ◌+◌, ◌-◌, ◌<◌, ◌≤◌, Bool, false, cond, List, [], ◌∷◌, map, length, get_or, take, None, Option, sym, refl, ap, ◌∙◌, ap₂, arith}
+use Rattle.std.proofs.Common.{◌≡◌, ℕ, zero, suc, ◌+◌, ◌-◌, ◌<◌, ◌≤◌, false, cond, List, [], ◌∷◌, map, length, get_or, take, None, Option, sym, refl, ap, ◌∙◌, ap₂, arith}
 use Rattle.std.proofs.lemmas.List.FromFn.{get_or-map-range_with_len}
 use Rattle.std.proofs.lemmas.List.{length-map, get_or-map, take_all}
-use Rattle.share.specs.Rule.{total, share_of, shares_of, limit}
+use Rattle.share.specs.Rule.{total, share_of, limit}
 use Rattle.auction.specs.Auctions.{listings_of}
 use Rattle.auction.specs.Earning.{earned_of, some_silent, senior_by, subordinate_by, over_earned, tiers_by}
 use Rattle.auction.specs.Counting.{silent}

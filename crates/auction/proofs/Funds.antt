@@ -1,5 +1,5 @@
 -- Rosters in which no amount is above its limit. Assumes nothing.
-use Rattle.std.proofs.Common.{◌≡◌, ℕ, zero, suc, ◌-◌, ◌≤◌, List, [], ◌∷◌, get_or, set, replicate, None, Option, sym, ap, ◌∙◌, arith}
+use Rattle.std.proofs.Common.{◌≡◌, ℕ, zero, suc, ◌-◌, ◌≤◌, List, [], ◌∷◌, set, replicate, None, Option, sym, ap, ◌∙◌, arith}
 use Rattle.std.proofs.lemmas.List.{set-get_or}
 use Rattle.auction.specs.Enrolling.{less, put}
 use Rattle.auction.specs.Roster.{most_amount, place, fund_of, assessment_of, Funded}

@@ -1,6 +1,6 @@
 -- Lots as bids come to them. Assumes nothing.
-use Rattle.std.proofs.Common.{◌≡◌, ℕ, zero, suc, ◌-◌, ◌<◌, ◌≤◌, Bool, true, false, cond, eqb, ◌⊎◌, List, [], ◌∷◌, ◌++◌, map, length, get_or, take, set, sym, refl, ap, ◌∙◌, inl, inr, arith}
-use Rattle.std.proofs.lemmas.List.{length-map, length-take-le, length-set, get_or-map, get_or-take, get_or_past, set_past, set-get_or, take-map}
+use Rattle.std.proofs.Common.{◌≡◌, ℕ, zero, suc, ◌-◌, ◌<◌, ◌≤◌, true, false, cond, eqb, ◌⊎◌, List, [], ◌∷◌, ◌++◌, map, length, get_or, take, set, sym, refl, ap, ◌∙◌, inl, inr, arith}
+use Rattle.std.proofs.lemmas.List.{length-map, length-take-le, length-set, get_or-take, get_or_past, set_past, set-get_or, take-map}
 use Rattle.std.proofs.lemmas.Bool.Decides.{nat_tests}
 use Rattle.share.specs.Refusals.{left_by, first_nonzero, if_so}
 use Rattle.share.specs.declared.refusal.Refusal.TheVariants.{OutOfRange, ExcusedByCall}

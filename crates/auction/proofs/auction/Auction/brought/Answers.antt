@@ -1,4 +1,4 @@
-use Rattle.std.proofs.Common.{◌≡◌, map, length, take, ap, ◌∙◌, ap₂, arith}
+use Rattle.std.proofs.Common.{◌≡◌, length, take, ap, ◌∙◌, ap₂, arith}
 use native.Mathlib.Nat.{sub-zero}
 use Rattle.std.proofs.lemmas.List.{length-map}
 use Rattle.auction.specs.Auctions.{listings_of}
@@ -6,7 +6,6 @@ use Rattle.auction.specs.Earning.{earned_of, tiers_by}
 use Rattle.auction.specs.Filling.{tiers_of}
 use Rattle.auction.specs.Places.{places_of}
 use Rattle.auction.specs.Roster.{place, fund_of, assessment_of}
-use Rattle.auction.specs.declared.filling.Brought.{Brought}
 use Rattle.auction.specs.declared.filling.Tiers.{Tiers}
 use Rattle.auction.proofs.Earnings.{tiers-earned}
 use Rattle.auction.proofs.auction.Auction.brought.Goals as goal

@@ -1,7 +1,7 @@
-use Rattle.std.proofs.Common.{◌≡◌, ◌+◌, ◌-◌, true, false, map, length, get_or, take, set, sym, ap, ◌∙◌, inl, inr, arith}
+use Rattle.std.proofs.Common.{◌≡◌, ◌+◌, true, map, length, get_or, take, set, sym, ap, ◌∙◌, inl, inr, arith}
 use Rattle.share.specs.Refusals.{unless, left_by, first_nonzero}
 use Rattle.share.specs.Rule.{total}
-use Rattle.auction.specs.Lots.{listing_of, unlisted, lot_at, no_lot, bid_tests, lot_tests, entering, with_lot}
+use Rattle.auction.specs.Lots.{listing_of, unlisted, lot_at, no_lot, bid_tests, entering, with_lot}
 use Rattle.auction.proofs.Listings.{length-first, lot-in, lots-set, nowhere, somewhere, set-left, not_there, there, same-weights, same_length, same-terms}
 use Rattle.auction.proofs.auction.Auction.enter.Goals as goal
 use Rattle.auction.proofs.auction.Auction.enter.Goals.{then-lot-lt1-via-then-lot-lt1, then-lot-lt1-via-else-lot-lt1+then-i-self}

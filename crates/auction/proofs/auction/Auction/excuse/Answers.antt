@@ -1,4 +1,4 @@
-use Rattle.std.proofs.Common.{◌-◌, map, get_or, take, set, sym, refl, ap, ◌∙◌, arith}
+use Rattle.std.proofs.Common.{map, get_or, take, set, refl, ap, ◌∙◌, arith}
 use Rattle.auction.specs.Lots.{listing_of, unlisted, lot_at, excusing}
 use Rattle.share.specs.Rule.{total}
 use Rattle.auction.proofs.Listings.{lot-in, lots-set, set-none, same-weights, same_length}

@@ -1,10 +1,10 @@
-use Rattle.std.proofs.Common.{◌≡◌, ◌*◌, ◌<◌, ◌≤◌, Bool, true, not, ◌||◌, eqb, map, length, get_or, take, sym, ap, ◌∙◌, arith}
+use Rattle.std.proofs.Common.{◌≡◌, ◌<◌, map, length, get_or, take, sym, ap, ◌∙◌, arith}
 use Rattle.std.proofs.lemmas.List.{length-set}
-use Rattle.share.specs.Refusals.{number, unless, if_so, in_range}
+use Rattle.share.specs.Refusals.{number, unless, if_so}
 use Rattle.share.specs.Rule.{total}
 use Rattle.share.specs.declared.refusal.Refusal.TheVariants.{LotTerms}
 use Rattle.auction.specs.Lots.{listing_of, opened}
-use Rattle.auction.specs.Offers.{bad_lot, some_bad, bad_offer, terms_of}
+use Rattle.auction.specs.Offers.{bad_lot, terms_of}
 use Rattle.auction.specs.Weights.{lot_weights}
 use Rattle.auction.specs.declared.terms.Terms.{Terms}
 use Rattle.auction.proofs.Opening.{opened-more, bad_more, bad-at, weights-more, weights-opened, made-good, unmade-bad, bad-refused}

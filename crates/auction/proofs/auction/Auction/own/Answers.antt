@@ -1,8 +1,8 @@
-use Rattle.std.proofs.Common.{◌≡◌, ◌<◌, map, length, get_or, None, sym, ap, ◌∙◌, ap₂, arith}
+use Rattle.std.proofs.Common.{◌≡◌, ◌<◌, length, get_or, None, ap, ◌∙◌, ap₂, arith}
 use Rattle.std.proofs.lemmas.List.{length-map, get_or-map}
 use Rattle.auction.specs.Auctions.{listings_of}
 use Rattle.auction.specs.Classes.{senior_at, subordinate_at}
-use Rattle.auction.specs.Lots.{Listing, listing_of, price_in, unlisted}
+use Rattle.auction.specs.Lots.{listing_of, price_in, unlisted}
 use Rattle.auction.specs.Weights.{lot_amounts}
 use Rattle.auction.proofs.Earnings.{weights-within, own-amount, lot-here}
 use Rattle.auction.proofs.Listings.{length-lots, length-listings}

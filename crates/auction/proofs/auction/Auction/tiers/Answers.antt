@@ -1,4 +1,4 @@
-use Rattle.std.proofs.Common.{◌≡◌, ◌∙◌, arith}
+use Rattle.std.proofs.Common.{◌∙◌, arith}
 use Rattle.auction.specs.Auctions.{listings_of}
 use Rattle.auction.specs.Earning.{senior_by, subordinate_by}
 use Rattle.auction.proofs.Earnings.{so-far-all, step, tiers-is}

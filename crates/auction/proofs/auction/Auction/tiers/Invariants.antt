@@ -1,4 +1,4 @@
-use Rattle.std.proofs.Common.{◌≡◌, take}
+use Rattle.std.proofs.Common.{◌≡◌}
 use Rattle.auction.specs.Auctions.{listings_of}
 use Rattle.auction.specs.Earning.{senior_by, subordinate_by}
 use Rattle.auction.proofs.Earnings.{so_far}

@@ -1,4 +1,4 @@
-use Rattle.std.proofs.Common.{◌≡◌, ◌+◌, length, get_or, take, sym, ap, ◌∙◌, arith}
+use Rattle.std.proofs.Common.{◌≡◌, ◌+◌, get_or, take, sym, ap, ◌∙◌, arith}
 use Rattle.std.proofs.lemmas.List.{length-set, length-map, get_or-map, map-set, take_all}
 use Rattle.auction.specs.Filling.{amount_in, column_of, numbers_of}
 use Rattle.share.specs.declared.units.Dollars.{Dollars}

@@ -1,8 +1,7 @@
-use Rattle.std.proofs.Common.{◌≡◌, ◌-◌, length, get_or, sym, ap, ◌∙◌, arith}
+use Rattle.std.proofs.Common.{◌-◌, length, get_or, sym, ap, ◌∙◌, arith}
 use Rattle.std.proofs.lemmas.List.{length-map, get_or-map, get_or_past}
 use Rattle.share.specs.declared.units.Parts.{Parts}
 use Rattle.lot.specs.Allocation.{allocations}
-use Rattle.lot.specs.Allotments.{numbers}
 use Rattle.auction.specs.Lots.{listing_of}
 use Rattle.auction.proofs.lots.Lot.allocation.Goals as goal
 

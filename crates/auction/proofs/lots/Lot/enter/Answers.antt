@@ -1,9 +1,9 @@
-use Rattle.std.proofs.Common.{◌≡◌, ◌+◌, false, [], ◌∷◌, length, sym, ap, ◌∙◌}
+use Rattle.std.proofs.Common.{◌+◌, [], ◌∷◌, length, sym, ap, ◌∙◌}
 use Rattle.share.specs.Refusals.{number, unless, if_so}
 use Rattle.share.specs.declared.refusal.Refusal.TheVariants.{ExcusedByCall}
 use Rattle.share.proofs.Answered.{first-refuses}
 use Rattle.lot.specs.Entering.{refusal}
-use Rattle.auction.specs.Lots.{listing_of, entering, excused_by_call, bid_tests}
+use Rattle.auction.specs.Lots.{listing_of, entering, excused_by_call}
 use Rattle.auction.proofs.Listings.{tests-unexcused, entered-unexcused}
 use Rattle.auction.proofs.lots.Lot.enter.Goals as goal
 

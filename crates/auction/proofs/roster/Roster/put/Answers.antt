@@ -1,4 +1,4 @@
-use Rattle.std.proofs.Common.{◌≡◌, map, set, sym, ◌∙◌, subst, arith}
+use Rattle.std.proofs.Common.{map, sym, ◌∙◌, subst, arith}
 use Rattle.std.proofs.lemmas.List.{length-set, map-set}
 use Rattle.auction.specs.Roster.{held, Funded}
 use Rattle.auction.proofs.Funds.{funded-set}
