@@ -1,5 +1,5 @@
 -- Calls that are answered after some tests were passed. Assumes nothing.
-use Rattle.std.proofs.Common.{◌≡◌, ℕ, zero, suc, ◌<◌, Bool, true, false, not, ◌||◌, List, [], ◌∷◌, Ok, Err, Option, Result, sym, refl, ap, ◌∙◌, ap₂, arith}
+use Rattle.std.proofs.Common.{◌≡◌, ℕ, zero, suc, ◌<◌, Bool, true, false, not, ◌||◌, List, [], ◌∷◌, Err, Option, Result, sym, refl, ap, ◌∙◌, ap₂, arith}
 use Rattle.share.specs.Refusals.{unless, left_by, if_so, first_nonzero}
 use Rattle.share.specs.declared.refusal.Refusal.TheVariants.{WrongPhase, OutOfRange}
 use Rattle.auction.specs.Lots.{Listing}

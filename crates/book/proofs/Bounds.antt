@@ -4,7 +4,7 @@ use Rattle.std.specs.List.{AllByRecursion as All}
 use Rattle.std.proofs.lemmas.Bool.{cond_both}
 use Rattle.share.specs.Rule.{limit, total}
 use Rattle.resource.specs.declared.resource.Resource.{Ghosts}
-use Rattle.resource.specs.Weights.{light-total}
+use Rattle.resource.specs.Totals.{light-total}
 use Rattle.auction.specs.Lots.{Listing, all_fail}
 use Rattle.auction.specs.Laws.{in_no_seat}
 use Rattle.auction.specs.Roster.{most_amount, place, fund_of, assessment_of}

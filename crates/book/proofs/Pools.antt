@@ -7,7 +7,8 @@ use Rattle.share.specs.declared.refusal.Refusal.{Refusal}
 use Rattle.resource.specs.Payers.{Light, pool_refusal}
 use Rattle.resource.specs.Pools.{Stake, as_made, capacity_of, standing_of, payer_refusal}
 use Rattle.resource.specs.declared.pool.Pool.{Pool}
-use Rattle.resource.specs.Weights.{light-heavy, light-taken, pool-total}
+use Rattle.resource.proofs.Weights.{light-heavy, light-taken}
+use Rattle.resource.specs.Totals.{pool-total}
 use Rattle.auction.specs.Filling.{column_of, weights_by, WithinLimits}
 use Rattle.auction.specs.declared.filling.Filling.{Filling}
 use Rattle.auction.specs.declared.filling.Money.{Money}

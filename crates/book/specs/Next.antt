@@ -1,5 +1,5 @@
 -- The ten calls on a book: the answer, and the book afterwards. Assumes nothing.
-use Rattle.std.specs.Prelude.{ℕ, zero, suc, ◌+◌, ◌-◌, min, cond, List, [], ◌∷◌, map, length, None, Option, Result}
+use Rattle.std.specs.Prelude.{ℕ, ◌+◌, ◌-◌, min, cond, List, [], ◌∷◌, map, length, None, Option, Result}
 use Rattle.share.specs.Refusals.{unless, left_by}
 use Rattle.share.specs.Rule.{total}
 use Rattle.auction.specs.Enrolling.{member_with, put, topped_up}

@@ -1,5 +1,5 @@
 -- When a call is declined: the tests in the order of their numbers. Assumes nothing.
-use Rattle.std.specs.Prelude.{ℕ, Bool, not, ◌||◌, List, [], ◌∷◌, nat_lt}
+use Rattle.std.specs.Prelude.{ℕ, not, ◌||◌, List, [], ◌∷◌, nat_lt}
 use Rattle.share.specs.Refusals.{if_so, first_nonzero}
 use Rattle.share.specs.declared.refusal.Refusal.TheVariants.{WrongPhase, OutOfRange, NotEnrolled, OutsideLimits, LotTerms}
 use Rattle.auction.specs.Enrolling.{no_member, absent, enrol_tests, top_up_tests, member_tests}

@@ -1,9 +1,9 @@
-use Rattle.std.proofs.Common.{◌≡◌, ◌-◌, ◌<◌, ◌≤◌, length, sym, ap, ◌∙◌, arith}
+use Rattle.std.proofs.Common.{◌-◌, length, sym, arith}
 use Rattle.share.specs.Rule.{share_of}
 use Rattle.share.specs.Refusals.{number}
 use Rattle.share.proofs.Answered.{unless-ok}
 use Rattle.resource.specs.Pools.{payers_of, standing_of, payer_refusal}
-use Rattle.resource.specs.Weights.{payer-within}
+use Rattle.resource.proofs.Weights.{payer-within}
 use Rattle.auction.proofs.Rosters.{share-past}
 use Rattle.book.proofs.Pools.{payer-past}
 use Rattle.book.proofs.seats.borne.Goals as goal

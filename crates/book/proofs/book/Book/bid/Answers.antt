@@ -7,7 +7,6 @@ use Rattle.share.proofs.Answered.{unless-ok}
 use Rattle.auction.specs.Auctions.{listings_of}
 use Rattle.auction.specs.Enrolling.{no_member, absent}
 use Rattle.auction.specs.Lots.{lot_at, no_lot, bid_tests, lot_tests, with_lot, entering}
-use Rattle.auction.specs.Places.{places_of}
 use Rattle.auction.proofs.Listings.{somewhere}
 use Rattle.book.specs.Calls.{bid_of, entering_as}
 use Rattle.book.specs.Next.{after, with_lots}
