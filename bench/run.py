@@ -1,4 +1,4 @@
-"""`run.py` measures the programs of target/bin against those of plain/: the book itself, then the
+"""`run.py` measures the built programs of crates/ against those of plain/: the book itself, then the
 console. `run.py PROGRAM [AUCTIONS [RUNS]]` measures that console alone.
 
 Both programs of a pair must print the same. Times are of whole runs, files included.
@@ -15,7 +15,7 @@ import time
 import script
 
 HERE = os.path.dirname(os.path.abspath(__file__))
-BUILT = os.path.join(HERE, "..", "target", "bin")
+CRATES = os.path.join(HERE, "..", "crates")
 CALLS = 1 + 4 * 64 + 1 + 1_250 + 1 + 32  # of an auction of full_book, from open to the top ups
 RUSTC = ["rustc", "--edition", "2021", "-O", "-C", "target-cpu=generic"]
 
@@ -92,12 +92,12 @@ def both():
     # each program that is built
     status, found = 0, 0
     for measured in (full_book, console):
-        program = os.path.join(BUILT, measured.__name__)
+        program = os.path.join(CRATES, measured.__name__, "out", measured.__name__)
         if os.path.exists(program):
             found += 1
             status |= measured(program)
     if found == 0:
-        print("neither target/bin/full_book nor target/bin/console is built")
+        print("neither full_book nor console is built: `rt run` in its crate builds one")
         return 1
     return status
 
