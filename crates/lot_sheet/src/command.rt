@@ -55,9 +55,9 @@ impl Command {
         let (first, rest) = split_word(line);
         if is_silent(first) {
             Ok(Command::Nothing)
-        } else if first == b"lot" {
+        } else if first == b"lot".as_slice() {
             lot(rest)
-        } else if first == b"bid" {
+        } else if first == b"bid".as_slice() {
             bid(rest)
         } else {
             Err(Fault::NoSuchCommand)
@@ -142,9 +142,9 @@ fn small(word: &[u8]) -> Option<u16>
 fn kind_named(word: &[u8]) -> Option<Kind>
     ensures { result ≡ kind_of word.now }
 {
-    if word == b"standard" {
+    if word == b"standard".as_slice() {
         Some(Kind::Standard)
-    } else if word == b"all" {
+    } else if word == b"all".as_slice() {
         Some(Kind::AllOrNothing)
     } else {
         None

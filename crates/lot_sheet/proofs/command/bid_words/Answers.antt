@@ -3,7 +3,7 @@ use Rattle.std.proofs.lemmas.Bool.{and_right}
 use Rattle.words.proofs.Cuts.{counted}
 use Rattle.words.specs.Words.{word_at, has_words}
 use Rattle.lot_sheet.proofs.command.bid_words.Goals as goal
-use Rattle.lot_sheet.proofs.command.bid_words.Goals.{then-is_empty-via-then-is_empty, then-is_empty-via-else-is-empty+then-not-is_empty}
+use Rattle.lot_sheet.proofs.command.bid_words.Goals.{then-is_empty-via-then-is_empty, then-is_empty-via-else-is_empty+then-not-is_empty}
 
 pub returns-then-is_empty : goal.returns-then-is_empty
 returns-then-is_empty c =
@@ -12,7 +12,7 @@ returns-then-is_empty c =
     counted 3 c.args.rest.now _ _ fourth fifth
     ∙ elim c.then-is_empty.branch [
       | then-is_empty-via-then-is_empty w ↦ rw (sym w.if-is_empty.ensures)
-      | then-is_empty-via-else-is-empty+then-not-is_empty w ↦ and_right (not (eqb (length c.split_word-4.result.0.now) 0)) _ (sym w.if-not-is_empty.ensures)
+      | then-is_empty-via-else-is_empty+then-not-is_empty w ↦ and_right (not (eqb (length c.split_word-4.result.0.now) 0)) _ (sym w.if-not-is_empty.ensures)
     ]
 
 pub returns : goal.returns
