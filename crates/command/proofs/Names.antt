@@ -8,7 +8,6 @@ use Rattle.std.proofs.lemmas.Bool.Decides.{nat_tests}
 use Rattle.std.specs.Result.{result_unwrap_or}
 use Rattle.std.specs.List.{AllByRecursion}
 use Rattle.std.specs.Str.{bytes_eq}
-use Rattle.command.specs.Commands.{choose}
 use Rattle.command.specs.Steps.{SameNames, plain}
 
 -- other bytes are not the same
@@ -18,11 +17,6 @@ differs xs ys h =
     λ t. elim t as (λ t. bytes_eq xs ys ≡ t → t ≡ false) [ true ↦ (λ e. absurd (h ((bytes_eq-Decides xs ys).0 e))) | false ↦ (λ e. refl) ]
     in
     go (bytes_eq xs ys) refl
-
--- a name that is none of a table's
-pub missed : {A : Type 0} (name : List ℕ) (rows : List (List ℕ × A)) (last : A) → AllByRecursion (λ row. name ≡ row.0 → ⊥) rows → last ≡ choose name rows last
-missed name [] last h = refl
-missed name (row ∷ rows) last h = rw (differs name row.0 h.0) (missed name rows last h.1)
 
 -- such bytes are text
 plain-ascii : (bytes : List ℕ) → plain bytes ≡ true → AllByRecursion (λ b. b < 128) bytes

@@ -4,16 +4,16 @@ use Rattle.std.proofs.lemmas.Bool.{ne_eqb}
 use Rattle.words.specs.Words.{word_count}
 use Rattle.auction.specs.contracts.offer.Offer.{the_ghost, the_propositions}
 use Rattle.auction.specs.contracts.terms.Terms as terms
-use Rattle.auction.specs.declared.offer.Offer.{Offer, four-type, plain_type}
+use Rattle.auction.specs.declared.offer.Offer.{Offer, four-type, plain-type}
 use Rattle.auction.specs.declared.terms.Terms.{Terms}
 use Rattle.command.specs.Opening.{terms_by, behind_lot, lots_by, no_terms, told, first_four, four-held, zeros-behind, offering, offer_of}
 use Rattle.command.specs.Readings.{given}
 use Rattle.command.specs.declared.fault.Fault.{Fault}
 
 -- two offers with the same count and terms are one
-pub same-offer : (c d : ℕ) (t u : List Terms) (f : four-type c t) (p : plain_type c t f) (g : four-type d u) (q : plain_type d u g) → c ≡ d → t ≡ u → ◌≡◌ {A = Offer} (record { count = c; terms = t; four = f; plain = p }) (record { count = d; terms = u; four = g; plain = q })
+pub same-offer : (c d : ℕ) (t u : List Terms) (f : four-type c t) (p : plain-type c t f) (g : four-type d u) (q : plain-type d u g) → c ≡ d → t ≡ u → ◌≡◌ {A = Offer} (record { count = c; terms = t; four = f; plain = p }) (record { count = d; terms = u; four = g; plain = q })
 same-offer c d t u f p g q e h =
-    let Same : ℕ → List Terms → Type 0 = λ c t. (f : four-type c t) (p : plain_type c t f) → ◌≡◌ {A = Offer} (record { count = c; terms = t; four = f; plain = p }) (record { count = d; terms = u; four = g; plain = q }) in
+    let Same : ℕ → List Terms → Type 0 = λ c t. (f : four-type c t) (p : plain-type c t f) → ◌≡◌ {A = Offer} (record { count = c; terms = t; four = f; plain = p }) (record { count = d; terms = u; four = g; plain = q }) in
     let one : Same d u = λ f p. ap (λ (v : the_ghost (d, (u, tt))). record { count = d; terms = u; four = v.0; plain = v.1.0 }) (the_propositions (terms.the_row).coded (d, (u, tt)) (f, (p, tt)) (g, (q, tt))) in
     subst (λ c. Same c t) (sym e) (subst (λ t. Same d t) (sym h) one) f p
 
@@ -33,16 +33,16 @@ long (suc n) rest lots e = by_first (terms_by rest) (lots_by n (behind_lot rest)
     by_first (Err fault) s h e = let never : ◌≡◌ {A = ℕ} 0 1 = cc in absurd (omega arith)
 
 -- what an offer has to keep, of the lots that were read
-pub kept : (n count : ℕ) (t : List Terms) (rest : List ℕ) → count ≡ told n → Ok t ≡ given (lots_by n rest) (λ lots. Ok (first_four lots)) → (four : four-type count t) × (plain_type count t four × Unit {0})
+pub kept : (n count : ℕ) (t : List Terms) (rest : List ℕ) → count ≡ told n → Ok t ≡ given (lots_by n rest) (λ lots. Ok (first_four lots)) → (four : four-type count t) × (plain-type count t four × Unit {0})
 kept n count t rest e h =
     let read = lots-held (lots_by n rest) t h in
     let lots : List Terms = read.0 in
     let many : told (length lots) ≡ count = ap told (long n rest lots read.1) ∙ sym e in
-    let Kept : ℕ → List Terms → Type 0 = λ count t. (four : four-type count t) × (plain_type count t four × Unit {0}) in
+    let Kept : ℕ → List Terms → Type 0 = λ count t. (four : four-type count t) × (plain-type count t four × Unit {0}) in
     subst (λ c. Kept c t) many (subst (λ t. Kept (told (length lots)) t) (sym read.2) (four-held lots, (zeros-behind lots, tt)))
 
 -- the offer of the lots that were read
-by-lots : (n count : ℕ) (t : List Terms) (rest : List ℕ) (f : four-type count t) (p : plain_type count t f) → count ≡ told n → Ok t ≡ given (lots_by n rest) (λ lots. Ok (first_four lots)) → ◌≡◌ {A = Result Offer Fault} (Ok (record { count = count; terms = t; four = f; plain = p })) (given (lots_by n rest) (λ lots. Ok (offering lots)))
+by-lots : (n count : ℕ) (t : List Terms) (rest : List ℕ) (f : four-type count t) (p : plain-type count t f) → count ≡ told n → Ok t ≡ given (lots_by n rest) (λ lots. Ok (first_four lots)) → ◌≡◌ {A = Result Offer Fault} (Ok (record { count = count; terms = t; four = f; plain = p })) (given (lots_by n rest) (λ lots. Ok (offering lots)))
 by-lots n count t rest f p e h =
     let read = lots-held (lots_by n rest) t h in
     let lots : List Terms = read.0 in
@@ -50,7 +50,7 @@ by-lots n count t rest f p e h =
     rw read.1 (ap Ok (same-offer count (told (length lots)) t (first_four lots) f p (four-held lots) (zeros-behind lots) many read.2))
 
 -- the same by the count of words
-pub offered : (words count : ℕ) (t : List Terms) (rest : List ℕ) (f : four-type count t) (p : plain_type count t f) → words ≡ word_count rest → (words ≡ 0 → ⊥) → words % 3 ≡ 0 → count ≡ told (words / 3) → Ok t ≡ given (lots_by (words / 3) rest) (λ lots. Ok (first_four lots)) → ◌≡◌ {A = Result Offer Fault} (Ok (record { count = count; terms = t; four = f; plain = p })) (offer_of rest)
+pub offered : (words count : ℕ) (t : List Terms) (rest : List ℕ) (f : four-type count t) (p : plain-type count t f) → words ≡ word_count rest → (words ≡ 0 → ⊥) → words % 3 ≡ 0 → count ≡ told (words / 3) → Ok t ≡ given (lots_by (words / 3) rest) (λ lots. Ok (first_four lots)) → ◌≡◌ {A = Result Offer Fault} (Ok (record { count = count; terms = t; four = f; plain = p })) (offer_of rest)
 offered words count t rest f p is some threes e h = rw (sym is, ne_eqb words 0 some, threes) (by-lots (words / 3) count t rest f p e h)
 
 -- an offer that holds all its lots is the offer of these
