@@ -18,8 +18,8 @@ SIGNATURE = re.compile(r"^(\s*)((?:abbrev |unfoldable )?)((?:pub )?)([^\s:({]+) 
 TYPE = re.compile(r"^\s*(?:abbrev )?(?:pub )?(?:record|data) ([^\s:({]+)")
 CASE = re.compile(r"^\s*\|\s*([^\s:]+) :(?=\s)")
 OLD_WORDS = {"getD": "get_or", "sumBy": "sum_by"}
-# a definition that would have the name of a tactic
-TAKEN = {"first_of": "first_nonzero"}
+# a definition that would have the name of a tactic, and a lemma whose old word was taken apart
+TAKEN = {"first_of": "first_nonzero", "get_d_front": "get_or-front"}
 
 
 def camel(name):
@@ -67,6 +67,8 @@ def names_of(files):
 
 def lemma_spelled(name, definitions):
     """A lemma's new name: the runs of its parts that name a definition are spelled as that."""
+    if name in TAKEN:
+        return TAKEN[name]
     parts, out, i = name.split("-"), [], 0
     while i < len(parts):
         for n in range(len(parts), i + 1, -1):
@@ -114,7 +116,9 @@ def main():
     antt = sorted(Path("crates").glob("*/specs/**/*.antt")) + sorted(Path("crates").glob("*/proofs/**/*.antt"))
     definitions, lemmas = names_of(antt)
     new = {name: TAKEN.get(name, spelled(name)) for name in definitions}
-    new.update({name: lemma_spelled(name, definitions) for name in lemmas})
+    # a definition may have underscores already where a lemma that names it has dashes
+    parts = definitions | {name.replace("_", "-") for name in definitions if name[0].islower()}
+    new.update({name: lemma_spelled(name, parts) for name in lemmas})
     new = {old: name for old, name in new.items() if old != name}
     together = {}
     for name in definitions | lemmas:

@@ -16,7 +16,7 @@ use Rattle.auction.specs.declared.lots.Lot.{Lot}
 use Rattle.auction.specs.declared.member.Member.{Member}
 use Rattle.auction.proofs.Tallies.{silent-earned}
 use Rattle.auction.proofs.Listings.{lot-in, length-lots, length-listings}
-use Rattle.auction.proofs.Parts.{total-cons, parts_at, shares-length, shares-at-most}
+use Rattle.auction.proofs.Parts.{total-cons, parts_at, shares-length, shares-at_most}
 
 -- a part of the lot amounts of the first lots
 abbrev pub so_far : (Listing → Earned → ℕ → ℕ) → List Listing → List Earned → ℕ → ℕ → ℕ
@@ -40,8 +40,8 @@ module _ (part : Listing → Earned → ℕ → ℕ) (ls : List Listing) (es : L
       let next : i + 1 ≡ suc i = omega arith in
       ap (so_far part ls es amount) next ∙ earned-more part ls es (lot_amounts ls amount) i dl de h same amounts-length
 
-  pub so-far-all : (i : ℕ) → length ls ≤ i → so_far part ls es amount i ≡ over_earned part ls es (lot_amounts ls amount)
-  so-far-all i h =
+  pub so_far-all : (i : ℕ) → length ls ≤ i → so_far part ls es amount i ≡ over_earned part ls es (lot_amounts ls amount)
+  so_far-all i h =
       ap (λ xs. over_earned part xs (take i es) (take i (lot_amounts ls amount))) (take_all i ls h)
       ∙ ap (λ xs. over_earned part ls xs (take i (lot_amounts ls amount))) (take_all i es (omega (arith, same, h)))
       ∙ ap (over_earned part ls es) (take_all i (lot_amounts ls amount) (omega (arith, amounts-length, h)))
@@ -60,9 +60,9 @@ total-take [] (suc i) = omega arith
 total-take (z ∷ zs) zero = omega arith
 total-take (z ∷ zs) (suc i) = omega (arith, total-cons z (take i zs), total-cons z zs, total-take zs i)
 
-pub so-far-bounded : (ls : List Listing) (es : List Earned) (amount i : ℕ) → so_far subordinate_by ls es amount i + so_far senior_by ls es amount i ≤ amount
-so-far-bounded ls es amount i =
-    omega (arith, parts-bounded (take i ls) (take i es) (take i (lot_amounts ls amount)), total-take (lot_amounts ls amount) i, shares-at-most amount (lot_weights ls))
+pub so_far-bounded : (ls : List Listing) (es : List Earned) (amount i : ℕ) → so_far subordinate_by ls es amount i + so_far senior_by ls es amount i ≤ amount
+so_far-bounded ls es amount i =
+    omega (arith, parts-bounded (take i ls) (take i es) (take i (lot_amounts ls amount)), total-take (lot_amounts ls amount) i, shares-at_most amount (lot_weights ls))
 
 -- by what a member earned, or by its requirement and BP
 pub over-same : (r : List (Option Member)) (m : ℕ) (part : Listing → Earned → ℕ → ℕ) (ls : List Listing) (zs : List ℕ) → over_earned part ls (map (earned_of r m) ls) zs ≡ over_lots (λ l a. part l (earned_of r m l) a) ls zs
@@ -110,7 +110,7 @@ module _ (a : Auction) (es : List Earned) (amount i s t x y : ℕ) (same : lengt
   step es-is et-is ex-is ey-is =
       let down = step-lot subordinate_by s x es-is ex-is in
       let up = step-lot senior_by t y et-is ey-is in
-      let all = so-far-bounded (listings_of a) es amount (i + 1) in
+      let all = so_far-bounded (listings_of a) es amount (i + 1) in
       (down, up, omega (arith, down, all), omega (arith, up, all))
 
 -- all of an amount by its tiers, where its member is not Non-bidding

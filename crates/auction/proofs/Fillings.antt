@@ -14,7 +14,7 @@ use Rattle.auction.specs.declared.filling.Tier.{Tier}
 use Rattle.auction.specs.declared.filling.Tier.TheVariants.{First, Second, Third}
 use Rattle.auction.specs.declared.member.Member.{Member}
 use Rattle.auction.proofs.Arrays.{fill_more}
-use Rattle.auction.proofs.Parts.{weights-at-most}
+use Rattle.auction.proofs.Parts.{weights-at_most}
 
 module _ (r : List (Option Member)) (ls : List Listing) where
   -- what each member brings
@@ -58,7 +58,7 @@ module _ (r : List (Option Member)) (ls : List Listing) where
   -- none of them is above its limit
   pub fill-limits : Funded r → WithinLimits (fill r ls)
   fill-limits h k =
-      let f = weights-at-most r ls fund_of k in
-      let a = weights-at-most r ls assessment_of k in
+      let f = weights-at_most r ls fund_of k in
+      let a = weights-at_most r ls assessment_of k in
       let l = h k in
       (omega (arith, f, l.0), omega (arith, f, l.0), omega (arith, f, l.0), omega (arith, a, l.1), omega (arith, a, l.1), omega (arith, a, l.1))

@@ -12,7 +12,7 @@ use Rattle.lot.specs.Price.{lot_price}
 use Rattle.lot.specs.declared.bid.Price.{Price}
 use Rattle.lot.specs.declared.class.Class.{Class}
 use Rattle.lot.specs.declared.class.Class.TheVariants.{Senior, Split, Subordinate, Excused, NonBidding}
-use Rattle.lot.proofs.Splits.{part-at-most, distance-small}
+use Rattle.lot.proofs.Splits.{part-at_most, distance-small}
 use Rattle.auction.specs.Classes.{senior_at, subordinate_at, unsold_at, senior_in, subordinate_in, unsold_in}
 use Rattle.auction.specs.Counting.{silent, bp_of}
 use Rattle.auction.specs.Laws.{all_weights, in_failed_lots, in_no_seat, WeightLaw}
@@ -23,19 +23,19 @@ use Rattle.auction.specs.Weights.{lot_weights, lot_amounts, over_lots, first_wei
 use Rattle.auction.specs.declared.member.Member.{Member}
 
 -- the senior part by class, where a Split's is within the amount
-by_class-at-most : (c : Class) (part x : ℕ) → (c ≡ Split → part ≤ x) → by_class c part x ≤ x
-by_class-at-most Senior part x h = omega arith
-by_class-at-most Split part x h = h refl
-by_class-at-most Subordinate part x h = omega arith
-by_class-at-most Excused part x h = omega arith
-by_class-at-most NonBidding part x h = omega arith
+by_class-at_most : (c : Class) (part x : ℕ) → (c ≡ Split → part ≤ x) → by_class c part x ≤ x
+by_class-at_most Senior part x h = omega arith
+by_class-at_most Split part x h = h refl
+by_class-at_most Subordinate part x h = omega arith
+by_class-at_most Excused part x h = omega arith
+by_class-at_most NonBidding part x h = omega arith
 
 -- the senior part of an amount is within it
 senior_at-most : (p : Price) (pri requirement : ℕ) (bp : Option Price) (x : ℕ) → senior_part p pri requirement bp x ≤ x
 senior_at-most p pri requirement None x = cond_both (eqb requirement 0) Excused NonBidding (λ c. by_class c 0 x ≤ x) (λ _. omega arith) (λ _. omega arith)
 senior_at-most p pri requirement (Some bp) x =
-    by_class-at-most (by_price p.0 pri bp.0) (split_part p pri (Some bp) x) x
-    (λ e. part-at-most x (natural (bp.0 -ℤ subordinate_threshold p.0 pri)) pri (distance-small p.0 pri bp.0 e))
+    by_class-at_most (by_price p.0 pri bp.0) (split_part p pri (Some bp) x) x
+    (λ e. part-at_most x (natural (bp.0 -ℤ subordinate_threshold p.0 pri)) pri (distance-small p.0 pri bp.0 e))
 
 -- the senior part, the subordinate part and what is in a failed lot are all of a lot amount
 pub parts_at : (o : Option Price) (pri requirement : ℕ) (bp : Option Price) (x : ℕ) → subordinate_at o pri requirement bp x + senior_at o pri requirement bp x + unsold_at o x ≡ x
@@ -61,8 +61,8 @@ module _ (r : List (Option Member)) (m : ℕ) where
 pub shares-length : (a : ℕ) (ws : List ℕ) → length (shares_of a ws) ≡ length ws
 shares-length a ws = simp length-map-range_with_len
 
-pub shares-at-most : (a : ℕ) (ws : List ℕ) → total (shares_of a ws) ≤ a
-shares-at-most a ws = elim (cases_lt 0 (total ws)) [
+pub shares-at_most : (a : ℕ) (ws : List ℕ) → total (shares_of a ws) ≤ a
+shares-at_most a ws = elim (cases_lt 0 (total ws)) [
   | inl some ↦ omega (arith, adds_up a ws some)
   | inr none ↦
       let z : total ws ≡ 0 = omega arith in
@@ -89,7 +89,7 @@ module _ (r : List (Option Member)) (ls : List Listing) (m x : ℕ) where
     where
       go : (v : Bool) → cond v x 0 + (cond v 0 (over_lots (subordinate_in r m) ls (lot_amounts ls x)) + cond v 0 (over_lots (senior_in r m) ls (lot_amounts ls x))) ≤ x
       go true = omega arith
-      go false = omega (arith, amounts-over, shares-at-most x (lot_weights ls))
+      go false = omega (arith, amounts-over, shares-at_most x (lot_weights ls))
 
 pub weight-law : WeightLaw
 weight-law = record {
@@ -109,9 +109,9 @@ weight-at : (weight : ℕ → ℕ → ℕ) (amount : Option Member → ℕ) (r :
 weight-at weight amount r i h = get_or-map-range_with_len (λ m. weight m (amount (place r m))) 1 (length r) i (1 + i) 0 h refl
 
 -- what a member brings to the three pools of its fund or its assessment
-pub weights-at-most : (r : List (Option Member)) (ls : List Listing) (amount : Option Member → ℕ) (i : ℕ) →
+pub weights-at_most : (r : List (Option Member)) (ls : List Listing) (amount : Option Member → ℕ) (i : ℕ) →
     get_or (each_weight (first_weight r ls) amount r) i 0 + (get_or (each_weight (second_weight r ls) amount r) i 0 + get_or (each_weight (third_weight r ls) amount r) i 0) ≤ amount (get_or r i None)
-weights-at-most r ls amount i = elim (cases_lt i (length r)) [
+weights-at_most r ls amount i = elim (cases_lt i (length r)) [
   | inl h ↦
       let e : 1 + i - 1 ≡ i = omega arith in
       let same : amount (place r (1 + i)) ≡ amount (get_or r i None) = ap (λ j. amount (get_or r j None)) e in

@@ -1,6 +1,6 @@
 -- Every amount, weight and capacity of a book that has lived is within its limit, and its pools are filled by the rules. Assumes nothing.
 use Rattle.std.proofs.Common.{◌≡◌, ℕ, zero, suc, ◌+◌, ◌-◌, ◌<◌, ◌≤◌, List, [], ◌∷◌, length, get_or, replicate, None, Option, refl, ap, ◌∙◌, arith}
-use Rattle.std.specs.List.{AllByRecursion as All}
+use Rattle.std.specs.List.{AllByRecursion}
 use Rattle.std.proofs.lemmas.Bool.{cond_both}
 use Rattle.share.specs.Rule.{limit, total}
 use Rattle.resource.specs.declared.resource.Resource.{Ghosts}
@@ -10,7 +10,7 @@ use Rattle.auction.specs.Laws.{in_no_seat}
 use Rattle.auction.specs.Roster.{most_amount, place, fund_of, assessment_of}
 use Rattle.auction.specs.Weights.{lot_weights, fill, each_weight, first_weight, second_weight, third_weight}
 use Rattle.auction.specs.declared.member.Member.{Member}
-use Rattle.auction.proofs.Parts.{weights-at-most, length-weights, weights-whole}
+use Rattle.auction.proofs.Parts.{weights-at_most, length-weights, weights-whole}
 use Rattle.book.specs.Bounds.{MeansLaw, LimitsLaw, FillingLaw}
 use Rattle.book.specs.Lived.{Lived, new, lived}
 use Rattle.book.specs.Next.{all_standing, with_lots, filled, after}
@@ -71,13 +71,13 @@ sized-idle = record { long = refl; light = λ i. omega (arith, zeros 32 i) }
 -- the three pools of an amount within its limit
 module _ (r : List (Option Member)) (ls : List Listing) (places : length r ≡ 32) (amount : Option Member → ℕ) (within : (i : ℕ) → amount (get_or r i None) ≤ most_amount) where
   sized-first : Sized (each_weight (first_weight r ls) amount r)
-  sized-first = record { long = length-weights (first_weight r ls) amount r ∙ places; light = λ i. omega (arith, weights-at-most r ls amount i, within i) }
+  sized-first = record { long = length-weights (first_weight r ls) amount r ∙ places; light = λ i. omega (arith, weights-at_most r ls amount i, within i) }
 
   sized-second : Sized (each_weight (second_weight r ls) amount r)
-  sized-second = record { long = length-weights (second_weight r ls) amount r ∙ places; light = λ i. omega (arith, weights-at-most r ls amount i, within i) }
+  sized-second = record { long = length-weights (second_weight r ls) amount r ∙ places; light = λ i. omega (arith, weights-at_most r ls amount i, within i) }
 
   sized-third : Sized (each_weight (third_weight r ls) amount r)
-  sized-third = record { long = length-weights (third_weight r ls) amount r ∙ places; light = λ i. omega (arith, weights-at-most r ls amount i, within i) }
+  sized-third = record { long = length-weights (third_weight r ls) amount r ∙ places; light = λ i. omega (arith, weights-at_most r ls amount i, within i) }
 
 -- the pools of a book by seat
 record Pools (b : State) : Type 0 where
@@ -100,7 +100,7 @@ pools b (at_charge r ls c n e w h) = record {
   seventh = sized-third r ls e.places assessment_of (λ i. (e.funded i).1);
 }
 
-all-at : {A : Type 0} (P : A → Type 0) (xs : List A) (d : A) → All P xs → P d → (i : ℕ) → P (get_or xs i d)
+all-at : {A : Type 0} (P : A → Type 0) (xs : List A) (d : A) → AllByRecursion P xs → P d → (i : ℕ) → P (get_or xs i d)
 all-at P [] d each other i = other
 all-at P (x ∷ xs) d each other zero = each.0
 all-at P (x ∷ xs) d each other (suc i) = all-at P xs d each.1 other i
@@ -108,13 +108,13 @@ all-at P (x ∷ xs) d each other (suc i) = all-at P xs d each.1 other i
 weight-bounded : (b : State) → Pools b → (s m : ℕ) → weight_in b s m ≤ most_amount
 weight-bounded b p s m = all-at (λ k. get_or k.payers (m - 1) 0 ≤ most_amount) (by_seat b.stakes) nobody each (omega arith) (s - 1)
   where
-    each : All (λ k. get_or k.payers (m - 1) 0 ≤ most_amount) (by_seat b.stakes)
+    each : AllByRecursion (λ k. get_or k.payers (m - 1) 0 ≤ most_amount) (by_seat b.stakes)
     each = (p.first.light (m - 1), (p.second.light (m - 1), (p.third.light (m - 1), (omega arith, (p.fifth.light (m - 1), (p.sixth.light (m - 1), (p.seventh.light (m - 1), tt)))))))
 
 capacity-bounded : (b : State) → Pools b → b.capacity ≤ limit → (s : ℕ) → capacity_in b s ≤ limit
 capacity-bounded b p h s = all-at (λ n. n ≤ limit) (capacities b) 0 each (omega arith) (s - 1)
   where
-    each : All (λ n. n ≤ limit) (capacities b)
+    each : AllByRecursion (λ n. n ≤ limit) (capacities b)
     each =
         (sized-total _ p.first, (sized-total _ p.second, (sized-total _ p.third, (h, (sized-total _ p.fifth, (sized-total _ p.sixth, (sized-total _ p.seventh, tt)))))))
 

@@ -3,13 +3,13 @@ use Rattle.std.proofs.Common.{◌≡◌, ℕ, ◌+◌, ◌-◌, ◌<◌, ◌≤�
 use Rattle.std.proofs.lemmas.List.FromFn.{length-map-range_with_len}
 use Rattle.std.proofs.lemmas.List.Sums.{sum_by-set}
 use Rattle.share.specs.Rule.{total, share_of}
-use Rattle.share.proofs.Shares.{share-at-most}
+use Rattle.share.proofs.Shares.{share-at_most}
 use Rattle.auction.specs.Lots.{Listing}
 use Rattle.auction.specs.Enrolling.{less, put}
 use Rattle.auction.specs.Roster.{place, fund_of, assessment_of, numbers}
 use Rattle.auction.specs.Weights.{fill, each_weight, first_weight, second_weight, third_weight}
 use Rattle.auction.specs.declared.member.Member.{Member}
-use Rattle.auction.proofs.Parts.{weights-at-most, length-weights}
+use Rattle.auction.proofs.Parts.{weights-at_most, length-weights}
 use Rattle.book.specs.Money.{free_of, free}
 use Rattle.book.specs.Standing.{stand, capacities_of, at_loss, fund_bears, assessment_bears, lowered_roster}
 use Rattle.book.specs.State.{State, still}
@@ -54,7 +54,7 @@ fills r ls amount = record {
   u_length = length-weights (first_weight r ls) amount r;
   v_length = length-weights (second_weight r ls) amount r;
   w_length = length-weights (third_weight r ls) amount r;
-  bounded = weights-at-most r ls amount;
+  bounded = weights-at_most r ls amount;
 }
 
 -- what the members bear in three pools at their standings
@@ -108,7 +108,7 @@ module _ (r : List (Option Member)) (ls : List Listing) (c n : ℕ) where
 
 -- outside Charging nobody bears anything
 pub idle-bears : (p : Phase) (r : List (Option Member)) (ls : List Listing) (c m : ℕ) → (fund_bears (still p r ls c) m ≡ 0) × (assessment_bears (still p r ls c) m ≡ 0)
-idle-bears p r ls c m = let none = share-at-most 0 (replicate 32 0) (m - 1) in (omega arith, omega arith)
+idle-bears p r ls c m = let none = share-at_most 0 (replicate 32 0) (m - 1) in (omega arith, omega arith)
 
 pub free-still : (p : Phase) (r : List (Option Member)) (ls : List Listing) (c : ℕ) → free (still p r ls c) ≡ amounts r + c
 unfolding amounts has

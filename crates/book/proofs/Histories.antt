@@ -21,7 +21,7 @@ use Rattle.book.specs.declared.calls.Call.{Call}
 use Rattle.book.specs.declared.calls.Call.TheVariants as call
 use Rattle.book.specs.declared.phase.Phase.TheVariants.{Resting, Bidding, Charging}
 use Rattle.book.proofs.Free.{loss_at, amounts, has, free-still}
-use Rattle.book.proofs.Seating.{stand-in-order, proportional}
+use Rattle.book.proofs.Seating.{stand-in_order, proportional}
 use Rattle.book.proofs.Steps.{Fit, Listed, Sound, at_rest, at_bids, at_charge, either_way, step, stands-whole, charge-within}
 
 no_one : (n i : ℕ) → (fund_of (get_or (replicate n None) i None) ≡ 0) × (assessment_of (get_or (replicate n None) i None) ≡ 0)
@@ -57,7 +57,7 @@ nothing-stands i = zeros 7 i
 ordered : (s t : ℕ) → 0 < s → s < t → (b : State) → Sound b → 0 < get_or (standings b) (t - 1) 0 → get_or (standings b) (s - 1) 0 ≡ get_or (capacities b) (s - 1) 0
 ordered s t low lt b (at_rest r c e) some = absurd (omega (arith, nothing-stands (t - 1)))
 ordered s t low lt b (at_bids r ls c e w) some = absurd (omega (arith, nothing-stands (t - 1)))
-ordered s t low lt b (at_charge r ls c n e w h) some = stand-in-order (capacities_of (fill r ls) c) n (s - 1) (t - 1) (omega arith) some
+ordered s t low lt b (at_charge r ls c n e w h) some = stand-in_order (capacities_of (fill r ls) c) n (s - 1) (t - 1) (omega arith) some
 
 -- a book in Charging of the same seats, whose loss was n and then grew by `up` and fell by `down`
 record Moved (r : List (Option Member)) (ls : List Listing) (c n up down : ℕ) (b : State) : Type 0 where

@@ -29,11 +29,11 @@ stand-whole (c ∷ cs) n h =
     omega (arith, total-cons (min c n) (stand cs (n - c)), stand-whole cs (n - c) (omega arith))
 
 -- a seat is full before the next one stands
-pub stand-in-order : (cs : List ℕ) (n i j : ℕ) → i < j → 0 < get_or (stand cs n) j 0 → get_or (stand cs n) i 0 ≡ get_or cs i 0
-stand-in-order [] n i j h some = refl
-stand-in-order (c ∷ cs) n i zero h some = absurd (omega arith)
-stand-in-order (c ∷ cs) n zero (suc j) h some = omega (arith, stand-below cs (n - c) j)
-stand-in-order (c ∷ cs) n (suc i) (suc j) h some = stand-in-order cs (n - c) i j (omega arith) some
+pub stand-in_order : (cs : List ℕ) (n i j : ℕ) → i < j → 0 < get_or (stand cs n) j 0 → get_or (stand cs n) i 0 ≡ get_or cs i 0
+stand-in_order [] n i j h some = refl
+stand-in_order (c ∷ cs) n i zero h some = absurd (omega arith)
+stand-in_order (c ∷ cs) n zero (suc j) h some = omega (arith, stand-below cs (n - c) j)
+stand-in_order (c ∷ cs) n (suc i) (suc j) h some = stand-in_order cs (n - c) i j (omega arith) some
 
 -- a seat but the fourth shows its pool
 seat-pool : (b : State) (s : ℕ) → 0 < s → s ≤ 7 → (s ≡ 4 → ⊥) → (capacity_in b s ≡ total (pool_in b s).payers) × (standing_in b s ≡ (pool_in b s).standing)

@@ -70,8 +70,8 @@ goes : {A : Type 0} (n : ℕ) (ws : List (List ℕ)) (r : Result A Fault) → Al
 goes n ws r h e = rw (eq-eqb (word_count (spaced ws)) n (written_count ws h ∙ e))
 
 -- the words of commands are read back
-pub one-number-back : (n : ℕ) → Short n → one_number (spaced (decimal n ∷ [])) ≡ Ok n
-one-number-back n h =
+pub one_number-back : (n : ℕ) → Short n → one_number (spaced (decimal n ∷ [])) ≡ Ok n
+one_number-back n h =
     let w = short-word n h in
     goes 1 (decimal n ∷ []) _ (w, tt) refl ∙ rw (written (decimal n) [] w).0 (number-back n h)
 
@@ -147,7 +147,7 @@ offer-back ts some h =
 pub calls : (c : Call) → Writable c → command_of (spaced (call_name c ∷ call_words c)) ≡ Ok (command.Call c)
 calls (call.Enrol m f a) h = begins (codes "enrol") (decimal m ∷ amount f ∷ amount a ∷ []) refl (omega arith) refl ∙ rw (holding-back m f a h.0 h.1 h.2)
 calls (call.TopUp m f a) h = begins (codes "top-up") (decimal m ∷ amount f ∷ amount a ∷ []) refl (omega arith) refl ∙ rw (holding-back m f a h.0 h.1 h.2)
-calls (call.Release m) h = begins (codes "release") (decimal m ∷ []) refl (omega arith) refl ∙ rw (one-number-back m h)
+calls (call.Release m) h = begins (codes "release") (decimal m ∷ []) refl (omega arith) refl ∙ rw (one_number-back m h)
 calls (call.Open o) h = begins (codes "open") (lots_words (take o.count o.terms)) refl (omega arith) refl ∙ rw (offer-back (take o.count o.terms) (some-held o h.0) h.2) (ap (λ (o : Offer). Ok (command.Call (call.Open o))) (whole o h.1))
 calls (call.Excuse m l) h = begins (codes "excuse") (decimal m ∷ decimal l ∷ []) refl (omega arith) refl ∙ rw (two_numbers-back m l h.0 h.1)
 calls (call.Bid m l k n p) h = begins (codes "bid") (decimal m ∷ decimal l ∷ kind_word k ∷ decimal n ∷ signed_decimal p ∷ []) refl (omega arith) refl ∙ rw (bid-back m l k n p h.0 h.1 h.2 h.3)
@@ -159,13 +159,13 @@ calls call.Conclude h = begins (codes "conclude") [] refl (omega arith) refl
 -- and every question
 pub asks : (q : Question) → Askable q → command_of (spaced (question_name q ∷ question_words q)) ≡ Ok (command.Ask q)
 asks question.Phase h = begins (codes "phase") [] refl (omega arith) refl
-asks (question.Member m) h = begins (codes "member") (decimal m ∷ []) refl (omega arith) refl ∙ rw (one-number-back m h)
+asks (question.Member m) h = begins (codes "member") (decimal m ∷ []) refl (omega arith) refl ∙ rw (one_number-back m h)
 asks (question.Requirement m l) h = begins (codes "requirement") (decimal m ∷ decimal l ∷ []) refl (omega arith) refl ∙ rw (two_numbers-back m l h.0 h.1)
-asks (question.Price l) h = begins (codes "price") (decimal l ∷ []) refl (omega arith) refl ∙ rw (one-number-back l h)
+asks (question.Price l) h = begins (codes "price") (decimal l ∷ []) refl (omega arith) refl ∙ rw (one_number-back l h)
 asks (question.Allocation l e) h = begins (codes "allocation") (decimal l ∷ decimal e ∷ []) refl (omega arith) refl ∙ rw (two_numbers-back l e h.0 h.1)
 asks (question.Average m l) h = begins (codes "average") (decimal m ∷ decimal l ∷ []) refl (omega arith) refl ∙ rw (two_numbers-back m l h.0 h.1)
 asks (question.Class m l) h = begins (codes "class") (decimal m ∷ decimal l ∷ []) refl (omega arith) refl ∙ rw (two_numbers-back m l h.0 h.1)
-asks (question.Seat s) h = begins (codes "seat") (decimal s ∷ []) refl (omega arith) refl ∙ rw (one-number-back s h)
+asks (question.Seat s) h = begins (codes "seat") (decimal s ∷ []) refl (omega arith) refl ∙ rw (one_number-back s h)
 asks (question.Bears m s) h = begins (codes "bears") (decimal m ∷ decimal s ∷ []) refl (omega arith) refl ∙ rw (two_numbers-back m s h.0 h.1)
 
 -- the house, and an `open` of any number of lots

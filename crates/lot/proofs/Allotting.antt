@@ -1,7 +1,7 @@
 -- The allocations of a lot: what they add up to, that no bid gets more than its size, and which bids are served. Assumes nothing.
 use Rattle.std.proofs.Common.{◌≡◌, ℕ, zero, suc, ◌+◌, ◌-◌, ◌*◌, ◌<◌, ◌≤◌, Bool, true, false, cond, ◌&&◌, List, [], ◌∷◌, map, length, get_or, ℤ, pos, ◌+ℤ◌, ◌≤ℤ◌, ◌<ℤ◌, is_some, Some, sym, refl, ap, ◌∙◌, ⊎_elim, arith}
 use lib.Signed.{le_z, lt_z}
-use Rattle.std.specs.List.{AllByRecursion as All}
+use Rattle.std.specs.List.{AllByRecursion}
 use Rattle.std.proofs.lemmas.List.FromFn.{length-map-range_with_len, get_or-map-range_with_len}
 use Rattle.std.proofs.ByRecursion.{all-has, All-weaker}
 use Rattle.std.proofs.lemmas.List.{get_or-map, get_or_past, length-map}
@@ -46,7 +46,7 @@ module _ (p : Price) where
   total-taken : (bs : List Bid) → total (whole ∷ nothing bs) ≡ whole
   total-taken bs = omega (arith, sum_by-cons (λ n. n) whole (nothing bs), total-nothing bs)
 
-  all-total-first_takes : (bs : List Bid) → All (λ b. takes_all p b ≡ true → total (first_takes p bs) ≡ whole) bs
+  all-total-first_takes : (bs : List Bid) → AllByRecursion (λ b. takes_all p b ≡ true → total (first_takes p bs) ≡ whole) bs
   all-total-first_takes [] = tt
   all-total-first_takes (b ∷ bs) = (
     λ takes. rw takes (total-taken bs),
@@ -63,7 +63,7 @@ module _ (p : Price) where
       level : (z : ℤ) → (le_z z z && le_z z z) ≡ true
       level z = grind (arith, ints)
 
-  first_takes-within : (bs : List Bid) → All (λ b. is_standard b ≡ false → b.size.0 ≡ whole) bs → (i : ℕ) → get_or (first_takes p bs) i 0 ≤ get_or (map size_of bs) i 0
+  first_takes-within : (bs : List Bid) → AllByRecursion (λ b. is_standard b ≡ false → b.size.0 ≡ whole) bs → (i : ℕ) → get_or (first_takes p bs) i 0 ≤ get_or (map size_of bs) i 0
   first_takes-within [] sized i = omega arith
   first_takes-within (b ∷ bs) sized zero = first_takes-both b bs (λ ks. get_or ks 0 0 ≤ size_of b)
       (λ takes. omega (arith, sized.0 (not-true _ (and_parts _ _ takes).0))) (λ _. omega arith)
@@ -180,11 +180,11 @@ module _ (w : Whose) (m : ℕ) (q : Price) (bs : List Bid) where
   abbrev pub tied_shares : List ℕ
   tied_shares = shares_of (m - all_above w q bs) (map (tied w q) bs)
 
-  pub length-tied-shares : length tied_shares ≡ length bs
-  length-tied-shares = length-shares _ (map (tied w q) bs) ∙ length-map bs (tied w q)
+  pub length-tied_shares : length tied_shares ≡ length bs
+  length-tied_shares = length-shares _ (map (tied w q) bs) ∙ length-map bs (tied w q)
 
-  pub length-down-to : length (down_to w m q bs) ≡ length bs
-  length-down-to = length-plus (map (above w q) bs) tied_shares (length_above ∙ sym length-tied-shares) ∙ length_above
+  pub length-down_to : length (down_to w m q bs) ≡ length bs
+  length-down_to = length-plus (map (above w q) bs) tied_shares (length_above ∙ sym length-tied_shares) ∙ length_above
 
   module _ (e : reached w m bs ≡ Some q) (some : 0 < m) where
     -- fewer than m parts are above the price at which the bids reach m
@@ -194,43 +194,43 @@ module _ (w : Whose) (m : ℕ) (q : Price) (bs : List Bid) where
     rest-within : m - all_above w q bs ≤ total (map (tied w q) bs)
     rest-within = omega (arith, reached_enough w m bs q e, above-and-tied w q bs, sum-map (tied w q) bs)
 
-    pub total-tied-shares : total tied_shares ≡ m - all_above w q bs
-    total-tied-shares = adds_up_within _ (map (tied w q) bs) rest-within
+    pub total-tied_shares : total tied_shares ≡ m - all_above w q bs
+    total-tied_shares = adds_up_within _ (map (tied w q) bs) rest-within
 
-    pub tied-shares-within : (i : ℕ) → get_or tied_shares i 0 ≤ get_or (map (tied w q) bs) i 0
-    tied-shares-within = shares-within _ (map (tied w q) bs) rest-within
+    pub tied_shares-within : (i : ℕ) → get_or tied_shares i 0 ≤ get_or (map (tied w q) bs) i 0
+    tied_shares-within = shares-within _ (map (tied w q) bs) rest-within
 
-    pub down-to-sum : total (down_to w m q bs) ≡ m
-    down-to-sum = omega (arith, total-plus (map (above w q) bs) tied_shares, sum-map (above w q) bs, total-tied-shares, above-few)
+    pub down_to-sum : total (down_to w m q bs) ≡ m
+    down_to-sum = omega (arith, total-plus (map (above w q) bs) tied_shares, sum-map (above w q) bs, total-tied_shares, above-few)
 
-    down-to-at_or_better : (i : ℕ) → get_or (down_to w m q bs) i 0 ≤ get_or (map (at_or_better w q) bs) i 0
-    down-to-at_or_better i = omega (arith, get_or-plus (map (above w q) bs) tied_shares i, tied-shares-within i, get_or-above-and-tied w q bs i)
+    down_to-at_or_better : (i : ℕ) → get_or (down_to w m q bs) i 0 ≤ get_or (map (at_or_better w q) bs) i 0
+    down_to-at_or_better i = omega (arith, get_or-plus (map (above w q) bs) tied_shares i, tied_shares-within i, get_or-above-and-tied w q bs i)
 
-    pub down-to-within : (i : ℕ) → get_or (down_to w m q bs) i 0 ≤ get_or (map (offered w) bs) i 0
-    down-to-within i = omega (
+    pub down_to-within : (i : ℕ) → get_or (down_to w m q bs) i 0 ≤ get_or (map (offered w) bs) i 0
+    down_to-within i = omega (
       arith,
-      down-to-at_or_better i,
+      down_to-at_or_better i,
       get_or-map-le (at_or_better w q) (offered w) (λ b. cond-and-le (standard_of w b) (le_z q.0 b.price.0) b.size.0) bs i,
     )
 
-    down-to-within-size : (i : ℕ) → get_or (down_to w m q bs) i 0 ≤ get_or (map size_of bs) i 0
-    down-to-within-size i = omega (arith, down-to-within i, get_or-map-le (offered w) size_of (λ b. cond-and-le true (standard_of w b) b.size.0) bs i)
+    down_to-within-size : (i : ℕ) → get_or (down_to w m q bs) i 0 ≤ get_or (map size_of bs) i 0
+    down_to-within-size i = omega (arith, down_to-within i, get_or-map-le (offered w) size_of (λ b. cond-and-le true (standard_of w b) b.size.0) bs i)
 
     module _ (i : ℕ) (b : Bid) (here : BidAt bs i b) where
-      get_or-down-to : get_or (down_to w m q bs) i 0 ≡ above w q b + get_or tied_shares i 0
-      get_or-down-to = omega (arith, get_or-plus (map (above w q) bs) tied_shares i, get_or-bid (above w q) bs i b here)
+      get_or-down_to : get_or (down_to w m q bs) i 0 ≡ above w q b + get_or tied_shares i 0
+      get_or-down_to = omega (arith, get_or-plus (map (above w q) bs) tied_shares i, get_or-bid (above w q) bs i b here)
 
-      down-to-nothing : (standard_of w b && le_z q.0 b.price.0) ≡ false → get_or (down_to w m q bs) i 0 ≡ 0
-      down-to-nothing out = omega (arith, down-to-at_or_better i, get_or-bid (at_or_better w q) bs i b here, cond-false _ b.size.0 0 out)
+      down_to-nothing : (standard_of w b && le_z q.0 b.price.0) ≡ false → get_or (down_to w m q bs) i 0 ≡ 0
+      down_to-nothing out = omega (arith, down_to-at_or_better i, get_or-bid (at_or_better w q) bs i b here, cond-false _ b.size.0 0 out)
 
-      down-to-size : standard_of w b ≡ true → q.0 <ℤ b.price.0 → get_or (down_to w m q bs) i 0 ≡ size_of b
-      down-to-size one better =
+      down_to-size : standard_of w b ≡ true → q.0 <ℤ b.price.0 → get_or (down_to w m q bs) i 0 ≡ size_of b
+      down_to-size one better =
           let over : lt_z q.0 b.price.0 ≡ true = grind (arith, ints) in
-          omega (arith, get_or-down-to, cond-true _ b.size.0 0 (and_from _ _ one over), down-to-within-size i, get_or-bid size_of bs i b here)
+          omega (arith, get_or-down_to, cond-true _ b.size.0 0 (and_from _ _ one over), down_to-within-size i, get_or-bid size_of bs i b here)
 
-      down-to-near : standard_of w b ≡ true → b.price.0 ≡ q.0 →
+      down_to-near : standard_of w b ≡ true → b.price.0 ≡ q.0 →
           Within (get_or (down_to w m q bs) i 0 * all_tied w q bs) ((m - all_above w q bs) * size_of b) (all_tied w q bs)
-      down-to-near one priced =
+      down_to-near one priced =
           let ws = map (tied w q) bs in
           let over : lt_z q.0 b.price.0 ≡ false = grind (arith, ints) in
           let level : same_price q b.price ≡ true = grind (arith, ints) in
@@ -238,7 +238,7 @@ module _ (w : Whose) (m : ℕ) (q : Price) (bs : List Bid) where
           let weight : get_or ws i 0 ≡ size_of b = get_or-bid (tied w q) bs i b here ∙ cond-true _ b.size.0 0 (and_from _ _ one level) in
           let share : get_or (down_to w m q bs) i 0 ≡ share_of (m - all_above w q bs) ws i = omega (
             arith,
-            get_or-down-to,
+            get_or-down_to,
             cond-false _ b.size.0 0 (and_right (standard_of w b) _ over),
             get_or-map-range_with_len (share_of (m - all_above w q bs) ws) 0 (length ws) i i 0 inside (omega arith),
           ) in
@@ -249,17 +249,17 @@ module _ (bs : List Bid) where
   allotted-each : (c : Clearing) → length (allotted c bs) ≡ length bs
   allotted-each Failed = length-map bs (λ b. 0)
   allotted-each (ByAllOrNothing p) = length-first_takes p bs
-  allotted-each (ByStandard p) = length-down-to Everyone whole p bs
+  allotted-each (ByStandard p) = length-down_to Everyone whole p bs
 
   allotted-sum : (c : Clearing) → clearing bs ≡ c → total (allotted c bs) ≡ cond (is_some (lot_price bs)) whole 0
   allotted-sum Failed e = rw (failed bs e) (total-nothing bs)
   allotted-sum (ByAllOrNothing p) e = let prices = by-all-or-nothing bs p e in rw prices.1 (total-first_takes p bs prices.0)
-  allotted-sum (ByStandard p) e = let prices = by-standard bs p e in rw prices.1 (down-to-sum Everyone whole p bs prices.0 (omega arith))
+  allotted-sum (ByStandard p) e = let prices = by-standard bs p e in rw prices.1 (down_to-sum Everyone whole p bs prices.0 (omega arith))
 
-  allotted-within : All (λ b. is_standard b ≡ false → b.size.0 ≡ whole) bs → (c : Clearing) → clearing bs ≡ c → (i : ℕ) → get_or (allotted c bs) i 0 ≤ get_or (map size_of bs) i 0
+  allotted-within : AllByRecursion (λ b. is_standard b ≡ false → b.size.0 ≡ whole) bs → (c : Clearing) → clearing bs ≡ c → (i : ℕ) → get_or (allotted c bs) i 0 ≤ get_or (map size_of bs) i 0
   allotted-within sized Failed e i = omega (arith, get_or-nothing bs i)
   allotted-within sized (ByAllOrNothing p) e i = first_takes-within p bs sized i
-  allotted-within sized (ByStandard p) e i = down-to-within-size Everyone whole p bs (by-standard bs p e).0 (omega arith) i
+  allotted-within sized (ByStandard p) e i = down_to-within-size Everyone whole p bs (by-standard bs p e).0 (omega arith) i
 
   below-is-out : (b : Bid) (p q : Price) → lot_price bs ≡ Some p → lot_price bs ≡ Some q → b.price.0 <ℤ p.0 → le_z q.0 b.price.0 ≡ false
   below-is-out b p q priced found low = let same : q ≡ p = cc in rw same (grind (arith, ints))
@@ -271,22 +271,22 @@ module _ (bs : List Bid) where
         first_takes-nothing q bs i b here (and_right _ _ (and_left _ _ (below-is-out b p q priced (by-all-or-nothing bs q e).1 low)))
     allotted-below (ByStandard q) e p priced low =
         let prices = by-standard bs q e in
-        down-to-nothing Everyone whole q bs prices.0 (omega arith) i b here (and_right _ _ (below-is-out b p q priced prices.1 low))
+        down_to-nothing Everyone whole q bs prices.0 (omega arith) i b here (and_right _ _ (below-is-out b p q priced prices.1 low))
 
     allotted-other_kind : (c : Clearing) → clearing bs ≡ c → sets_price c b.kind ≡ false → get_or (allotted c bs) i 0 ≡ 0
     allotted-other_kind Failed e other = get_or-nothing bs i
     allotted-other_kind (ByAllOrNothing p) e other = first_takes-nothing p bs i b here (and_left _ _ other)
-    allotted-other_kind (ByStandard p) e other = down-to-nothing Everyone whole p bs (by-standard bs p e).0 (omega arith) i b here (and_left _ _ (and_left _ _ other))
+    allotted-other_kind (ByStandard p) e other = down_to-nothing Everyone whole p bs (by-standard bs p e).0 (omega arith) i b here (and_left _ _ (and_left _ _ other))
 
 -- where each All or Nothing bid is for the whole lot
-pub allocation-law : (bs : List Bid) → All (λ b. is_standard b ≡ false → b.size.0 ≡ 10000) bs → AllocationLaw bs (allocations bs)
+pub allocation-law : (bs : List Bid) → AllByRecursion (λ b. is_standard b ≡ false → b.size.0 ≡ 10000) bs → AllocationLaw bs (allocations bs)
 allocation-law bs sized = record {
   each = allotted-each bs (clearing bs);
   sum = allotted-sum bs (clearing bs) refl;
   within = allotted-within bs sized (clearing bs) refl;
   below = λ p priced i b here. allotted-below bs i b here (clearing bs) refl p priced;
   other_kind = λ i b here. allotted-other_kind bs i b here (clearing bs) refl;
-  served = λ p e i b here standard better. rw e (down-to-size Everyone whole p bs (by-standard bs p e).0 (omega arith) i b here (and_from _ _ standard refl) better);
-  near = λ p e i b here standard level. rw e (down-to-near Everyone whole p bs (by-standard bs p e).0 (omega arith) i b here (and_from _ _ standard refl) level);
+  served = λ p e i b here standard better. rw e (down_to-size Everyone whole p bs (by-standard bs p e).0 (omega arith) i b here (and_from _ _ standard refl) better);
+  near = λ p e i b here standard level. rw e (down_to-near Everyone whole p bs (by-standard bs p e).0 (omega arith) i b here (and_from _ _ standard refl) level);
   earliest = λ p e i b here some. first_takes-earliest p bs i b here (rw e at some);
 }

@@ -12,7 +12,7 @@ use Rattle.lot.specs.Average.{floor, worth_above, all_worth_above, worth_down_to
 use Rattle.lot.specs.declared.bid.Bid.{Bid}
 use Rattle.lot.specs.declared.bid.Price.{Price}
 use Rattle.lot.specs.declared.bid.Whose.{Whose}
-use Rattle.lot.proofs.Allotting.{tied_shares, length-tied-shares, length-down-to, above-few, total-tied-shares, tied-shares-within, down-to-sum, down-to-within}
+use Rattle.lot.proofs.Allotting.{tied_shares, length-tied_shares, length-down_to, above-few, total-tied_shares, tied_shares-within, down_to-sum, down_to-within}
 use Rattle.lot.proofs.Prices.{reached_offered}
 use Rattle.lot.proofs.Products.{times-mono, times-add, folded-cons, floor-below, floor-near}
 
@@ -47,8 +47,8 @@ module _ (w : Whose) (q : Price) where
   all_worth_above-cons : (b : Bid) (bs : List Bid) → all_worth_above w q (b ∷ bs) ≡ worth_above w q b +ℤ all_worth_above w q bs
   all_worth_above-cons = folded-cons (worth_above w q)
 
-  all-above-cons : (b : Bid) (bs : List Bid) → q.0 *ℤ pos (all_above w q (b ∷ bs)) ≡ (q.0 *ℤ pos (above w q b)) +ℤ (q.0 *ℤ pos (all_above w q bs))
-  all-above-cons b bs = ap (λ n. q.0 *ℤ pos n) (sum_by-cons (above w q) b bs) ∙ times-add q.0 (above w q b) (all_above w q bs)
+  all_above-cons : (b : Bid) (bs : List Bid) → q.0 *ℤ pos (all_above w q (b ∷ bs)) ≡ (q.0 *ℤ pos (above w q b)) +ℤ (q.0 *ℤ pos (all_above w q bs))
+  all_above-cons b bs = ap (λ n. q.0 *ℤ pos n) (sum_by-cons (above w q) b bs) ∙ times-add q.0 (above w q b) (all_above w q bs)
 
   total-cons : (k : ℕ) (ks : List ℕ) → q.0 *ℤ pos (total (k ∷ ks)) ≡ (q.0 *ℤ pos k) +ℤ (q.0 *ℤ pos (total ks))
   total-cons k ks = ap (λ n. q.0 *ℤ pos n) (sum_by-cons (λ n. n) k ks) ∙ times-add q.0 k (total ks)
@@ -63,7 +63,7 @@ module _ (w : Whose) (q : Price) where
     arith,
     ints,
     all_worth_above-cons b bs,
-    all-above-cons b bs,
+    all_above-cons b bs,
     total-cons k ks,
     exchange (standard_of w b) q.0 b.price.0 b.size.0 k c.0,
     choice-worth bs ks c.1,
@@ -97,10 +97,10 @@ module _ (w : Whose) (m : ℕ) (bs : List Bid) (some : 0 < m) where
   worth_down_to-best q e = record {
     attained = (
       down_to w m q bs,
-      choice-from w bs (down_to w m q bs) (length-down-to w m q bs) (down-to-within w m q bs e some),
-      down-to-sum w m q bs e some,
-      worth-plus w q bs (tied_shares w m q bs) (length-tied-shares w m q bs) (tied-shares-within w m q bs e some)
-          ∙ ap (λ n. all_worth_above w q bs +ℤ (q.0 *ℤ pos n)) (total-tied-shares w m q bs e some),
+      choice-from w bs (down_to w m q bs) (length-down_to w m q bs) (down_to-within w m q bs e some),
+      down_to-sum w m q bs e some,
+      worth-plus w q bs (tied_shares w m q bs) (length-tied_shares w m q bs) (tied_shares-within w m q bs e some)
+          ∙ ap (λ n. all_worth_above w q bs +ℤ (q.0 *ℤ pos n)) (total-tied_shares w m q bs e some),
     );
     greatest_one = λ ks c is.
         let few = above-few w m q bs e some in

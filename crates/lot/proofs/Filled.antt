@@ -8,7 +8,7 @@ use Rattle.share.specs.Rule.{total, share_of, shares_of}
 use Rattle.share.specs.declared.units.Parts.{Parts}
 use Rattle.lot.proofs.Allotting.{get_or-plus, length-plus}
 use Rattle.lot.proofs.Steps.{no_bid}
-use Rattle.lot.proofs.Taken.{Fit, asked-small, entries_fit, entries-few, all-asked-small}
+use Rattle.lot.proofs.Taken.{Fit, asked-small, entries_fit, entries-few, all_asked-small}
 use Rattle.lot.specs.Allocation.{above, tied, all_above, plus, down_to, nothing, takes_all, first_takes}
 use Rattle.lot.specs.Allotments.{numbers}
 use Rattle.lot.specs.Bids.{whole}
@@ -104,7 +104,7 @@ module _ (p : Price) where
 
   -- the rungs of a lot weigh at most 64 whole lots, and none has more than a whole lot above the price
   pub rungs-light : (lot : Bids) → total (map (λ r. r.tied.0) (map (rung p) (entries_of lot))) ≤ 640000
-  rungs-light lot = rw tied_of (omega (arith, sum-map (tied Everyone p) (entries_of lot), all-asked-small Everyone (Exactly p) lot))
+  rungs-light lot = rw tied_of (omega (arith, sum-map (tied Everyone p) (entries_of lot), all_asked-small Everyone (Exactly p) lot))
 
   pub rung-small : (lot : Bids) (i : ℕ) → i < length (entries_of lot) → (get_or (map (rung p) (entries_of lot)) i no_rung).above.0 ≤ 10000
   rung-small lot i h =

@@ -2,7 +2,7 @@
 use Rattle.std.proofs.Common.{◌≡◌, ℕ, ◌<◌, ◌≤◌, Bool, true, false, cond, ◌&&◌, leb, ◌⊎◌, List, [], ◌∷◌, ℤ, pos, ◌≤ℤ◌, is_some, Some, None, Option, sym, refl, ap, subst, inl, inr, ⊎_elim, arith}
 use lib.Signed.{le_z, lt_z, ≤ℤ_refl}
 use Rattle.std.specs.Int.{int_min}
-use Rattle.std.specs.List.{ContainsAt as Has, AllByRecursion as All}
+use Rattle.std.specs.List.{ContainsAt as Has, AllByRecursion}
 use Rattle.std.proofs.ByRecursion.{all-has, All-weaker, has_get_or, has_append_right}
 use Rattle.std.proofs.lemmas.Int.{by_lt_z, clamps, ints}
 use Rattle.std.proofs.lemmas.List.Sums.{sum_by-cons}
@@ -67,7 +67,7 @@ greatest-found f (b ∷ bs) p e = ⊎_elim (first (f b) refl) (λ more. on (grea
 
 -- the greatest price is at least that of each bid that passes
 module _ (f : Bid → Bool) (q : Price) where
-  all-reached : (bs : List Bid) → All (λ b. f b ≡ true → q.0 ≤ℤ b.price.0 → Reaches q (greatest f bs)) bs
+  all-reached : (bs : List Bid) → AllByRecursion (λ b. f b ≡ true → q.0 ≤ℤ b.price.0 → Reaches q (greatest f bs)) bs
   all-reached [] = tt
   all-reached (b ∷ bs) = (
     λ e h. better-reaches-left q (cond (f b) (Some b.price) None) (greatest f bs) (rw e h),

@@ -42,6 +42,6 @@ module _ (p : ℤ) (pri : ℕ) (bp : ℤ) (e : by_price p pri bp ≡ Split) wher
       ∙ to_z-of_z w64 (pos _) (fits-64 (pos _) (omega (arith, distance-small)))
 
 -- a part of at most all
-pub part-at-most : (amount d pri : ℕ) → d ≤ pri → amount * d / pri ≤ amount
-part-at-most amount d zero h = omega (arith, div-zero (amount * d))
-part-at-most amount d (suc n) h = div-le_of_le-mul (suc n) (omega (arith, mul-le-mul_left amount h))
+pub part-at_most : (amount d pri : ℕ) → d ≤ pri → amount * d / pri ≤ amount
+part-at_most amount d zero h = omega (arith, div-zero (amount * d))
+part-at_most amount d (suc n) h = div-le_of_le-mul (suc n) (omega (arith, mul-le-mul_left amount h))

@@ -4,7 +4,7 @@ use lib.Signed.{lt_z}
 use Rattle.std.proofs.lemmas.List.{take_all, at_drop_more, at_drop_all}
 use Rattle.std.proofs.lemmas.Int.{ints}
 use Rattle.std.proofs.lemmas.List.Sums.{sum_by_more, sum_by-take-le}
-use Rattle.lot.proofs.Taken.{all-asked-small}
+use Rattle.lot.proofs.Taken.{all_asked-small}
 use Rattle.lot.specs.Bids.{asked, all_asked}
 use Rattle.lot.specs.Lots.{entries_of}
 use Rattle.lot.specs.Price.{better, price_if, greatest}
@@ -23,7 +23,7 @@ no_bid = record { member = 0; kind = Standard; size = record { 0 = 0 }; price = 
 module _ (w : Whose) (l : Level) (lot : Bids) (bs : List Bid) (is : bs ≡ entries_of lot) where
   pub asked-fits : (i : ℕ) → all_asked w l (take i bs) ≤ 640000
   asked-fits i =
-      let all : all_asked w l bs ≤ 640000 = rw is (all-asked-small w l lot) in
+      let all : all_asked w l bs ≤ 640000 = rw is (all_asked-small w l lot) in
       omega (arith, sum_by-take-le (asked w l) bs i)
 
   pub asked-all : (i : ℕ) → length bs ≤ i → all_asked w l (take i bs) ≡ all_asked w l (entries_of lot)

@@ -5,7 +5,7 @@ use Rattle.std.proofs.lemmas.List.{append-nil, append_assoc, length-take}
 use Rattle.std.proofs.lemmas.Bool.{and_parts, and_from, or_parts, eqb-true, eq-eqb, ltb-false}
 use Rattle.std.proofs.ByRecursion.{All-weaker, sum_by_le}
 use Rattle.std.proofs.lemmas.Bool.Decides.{nat_tests}
-use Rattle.std.specs.List.{AllByRecursion as All}
+use Rattle.std.specs.List.{AllByRecursion}
 use Rattle.lot.specs.Bids.{whole, is_standard, standard_of, meets, asked, all_asked}
 use Rattle.lot.specs.Entering.{highest, lowest, out_of_limits, refusal, taken_after}
 use Rattle.lot.specs.Lots.{entries_of}
@@ -32,7 +32,7 @@ fit-taken before b h =
     record { small = ltb-false whole b.size.0 sizes.0; full = grind (arith, nat_tests); near = near-from b.price.0 prices.0 prices.1 }
 
 -- each bid that was taken is fit
-pub all_fit : (before bs : List Bid) → taken_after before bs ≡ true → All Fit bs
+pub all_fit : (before bs : List Bid) → taken_after before bs ≡ true → AllByRecursion Fit bs
 all_fit before [] h = tt
 all_fit before (b ∷ bs) h =
     let both = and_parts (eqb (refusal before b) 0) (taken_after (before ++ b ∷ []) bs) h in
@@ -47,7 +47,7 @@ taken-push before (x ∷ bs) b h e =
     and_from _ _ both.0 (taken-push (before ++ x ∷ []) bs b both.1 on)
 
 -- the bids of a lot are fit, and at most 64
-pub entries_fit : (lot : Bids) → All Fit (entries_of lot)
+pub entries_fit : (lot : Bids) → AllByRecursion Fit (entries_of lot)
 entries_fit lot = all_fit [] (entries_of lot) lot.taken
 
 pub entries-few : (lot : Bids) → length (entries_of lot) ≤ 64
@@ -61,8 +61,8 @@ at_most false n = omega arith
 pub asked-small : (w : Whose) (l : Level) (b : Bid) → Fit b → asked w l b ≤ 10000
 asked-small w l b fit = omega (arith, at_most (standard_of w b && meets l b.price) b.size.0, fit.small)
 
-pub all-asked-small : (w : Whose) (l : Level) (lot : Bids) → all_asked w l (entries_of lot) ≤ 640000
-all-asked-small w l lot =
+pub all_asked-small : (w : Whose) (l : Level) (lot : Bids) → all_asked w l (entries_of lot) ≤ 640000
+all_asked-small w l lot =
     let bs = entries_of lot in
     omega (
       arith,
@@ -70,5 +70,5 @@ all-asked-small w l lot =
       mul-le-mul_right 10000 (entries-few lot),
     )
 
-pub entries-whole : (lot : Bids) → All (λ b. is_standard b ≡ false → b.size.0 ≡ 10000) (entries_of lot)
+pub entries-whole : (lot : Bids) → AllByRecursion (λ b. is_standard b ≡ false → b.size.0 ≡ 10000) (entries_of lot)
 entries-whole lot = All-weaker Fit (λ b. is_standard b ≡ false → b.size.0 ≡ 10000) (λ b fit. fit.full) (entries_of lot) (entries_fit lot)

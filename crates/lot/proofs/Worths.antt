@@ -3,13 +3,13 @@ use Rattle.std.proofs.Common.{◌≡◌, ℕ, ◌+◌, ◌-◌, ◌*◌, ◌<◌
 use Rattle.std.proofs.ByRecursion.{All-take, all-has}
 use Rattle.std.proofs.lemmas.List.{take_all}
 use Rattle.std.proofs.lemmas.List.Sums.{fold_more, sum_by-cons}
-use Rattle.std.specs.List.{AllByRecursion as All}
+use Rattle.std.specs.List.{AllByRecursion}
 use Rattle.lot.proofs.Allotting.{above-few}
 use Rattle.lot.proofs.Magnitudes.{abs-add, abs-times, abs-floor, fits-64}
 use Rattle.lot.proofs.Prices.{greatest-found, reached_enough}
 use Rattle.lot.proofs.Products.{folded-cons}
 use Rattle.lot.proofs.Steps.{no_bid, asked-fits}
-use Rattle.lot.proofs.Taken.{Fit, entries_fit, all-asked-small}
+use Rattle.lot.proofs.Taken.{Fit, entries_fit, all_asked-small}
 use Rattle.lot.specs.Allocation.{above, all_above}
 use Rattle.lot.specs.Average.{floor, worth_above, all_worth_above, worth_down_to}
 use Rattle.lot.specs.Lots.{entries_of}
@@ -26,7 +26,7 @@ most = 2000000000
 
 module _ (w : Whose) (q : Price) where
   -- no part above a price is worth more than the greatest price
-  pub worth-small : (bs : List Bid) → All Fit bs → nat_abs (all_worth_above w q bs) ≤ most * all_above w q bs
+  pub worth-small : (bs : List Bid) → AllByRecursion Fit bs → nat_abs (all_worth_above w q bs) ≤ most * all_above w q bs
   worth-small [] fit = omega arith
   worth-small (b ∷ bs) fit =
       omega (
@@ -43,7 +43,7 @@ module _ (w : Whose) (q : Price) where
   module _ (lot : Bids) (bs : List Bid) (is : bs ≡ entries_of lot) where
     pub worth-fits : (i : ℕ) → SFits w64 (all_worth_above w q (take i bs))
     worth-fits i =
-        let fit : All Fit bs = rw is (entries_fit lot) in
+        let fit : AllByRecursion Fit bs = rw is (entries_fit lot) in
         fits-64 (all_worth_above w q (take i bs)) (omega (arith, worth-small (take i bs) (All-take Fit i bs fit), asked-fits w (Above q) lot bs is i))
 
     pub worth-more : (i : ℕ) → i < length bs → all_worth_above w q (take (i + 1) bs) ≡ all_worth_above w q (take i bs) +ℤ worth_above w q (get_or bs i no_bid)
@@ -64,13 +64,13 @@ module _ (w : Whose) (m : ℕ) (lot : Bids) (q : Price) (some : 0 < m) (e : reac
   above_within = omega (arith, above-few w m q (entries_of lot) e some)
 
   pub parts-few : m ≤ 640000
-  parts-few = omega (arith, reached_enough w m (entries_of lot) q e, all-asked-small w (AtOrBetter q) lot)
+  parts-few = omega (arith, reached_enough w m (entries_of lot) q e, all_asked-small w (AtOrBetter q) lot)
 
   pub rest-small : nat_abs (q.0 *ℤ pos (m - all_above w q (entries_of lot))) ≤ most * (m - all_above w q (entries_of lot))
   rest-small = omega (arith, abs-times q.0 (m - all_above w q (entries_of lot)), mul-le-mul_right (m - all_above w q (entries_of lot)) last-small)
 
-  pub down-to-small : nat_abs (worth_down_to w m (entries_of lot) q) ≤ most * m
-  down-to-small = omega (
+  pub down_to-small : nat_abs (worth_down_to w m (entries_of lot) q) ≤ most * m
+  down_to-small = omega (
     arith,
     above_within,
     rest-small,
@@ -79,4 +79,4 @@ module _ (w : Whose) (m : ℕ) (lot : Bids) (q : Price) (some : 0 < m) (e : reac
   )
 
   pub average-small : nat_abs (floor (worth_down_to w m (entries_of lot) q) m) ≤ most
-  average-small = abs-floor most m some (worth_down_to w m (entries_of lot) q) down-to-small
+  average-small = abs-floor most m some (worth_down_to w m (entries_of lot) q) down_to-small

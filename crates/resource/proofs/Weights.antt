@@ -23,8 +23,8 @@ lowered-light a ws light k h =
 pub length-weights : (n : ℕ) (ws : List Dollars) → n ≤ length ws → length (weights_of (take n ws)) ≡ n
 length-weights n ws h = simp (length-map, length-take) (omega arith)
 
-pub get_d_front : (n : ℕ) (ws : List Dollars) (i : ℕ) → i < n → n ≤ length ws → slice_index (weights_of (take n ws)) i ≡ (get_or ws i (record { 0 = 0 })).0
-get_d_front n ws i h long =
+pub get_or-front : (n : ℕ) (ws : List Dollars) (i : ℕ) → i < n → n ≤ length ws → slice_index (weights_of (take n ws)) i ≡ (get_or ws i (record { 0 = 0 })).0
+get_or-front n ws i h long =
     let inside : i < length (take n ws) = simp length-take (omega arith) in
     get_or-map worth (take n ws) i (record { 0 = 0 }) 0 inside ∙ ap worth (get_or-take n ws i (record { 0 = 0 }) h)
 
@@ -96,4 +96,4 @@ pool-law p = record {
 
 -- the weight at a place, as the array has it
 pub weight-at : (p : Pool) (i : ℕ) → i < length (payers_of p) → (get_or p.weights i (record { 0 = 0 })).0 ≡ slice_index (payers_of p) i
-weight-at p i h = sym (get_d_front p.count p.weights i (omega (arith, length-payers p)) (omega (arith, p.few, p.whole)))
+weight-at p i h = sym (get_or-front p.count p.weights i (omega (arith, length-payers p)) (omega (arith, p.few, p.whole)))

@@ -57,8 +57,8 @@ within-weight a ws i h small = elim (cases_lt 0 (total ws)) [
 ]
 
 -- no share is above the amount
-pub share-at-most : (a : ℕ) (ws : List ℕ) (i : ℕ) → share_of a ws i ≤ a
-share-at-most a ws i = elim (cases_lt 0 (total ws)) [
+pub share-at_most : (a : ℕ) (ws : List ℕ) (i : ℕ) → share_of a ws i ≤ a
+share-at_most a ws i = elim (cases_lt 0 (total ws)) [
   | inl pos ↦
       let most : upto a ws (i + 1) ≤ a * total ws / total ws = div_mono _ _ (total ws) (mul-le-mul_left a (total-take-le ws (i + 1))) in
       omega (arith, mul-div_cancel a pos)

@@ -1,5 +1,5 @@
 // Excusing members from lots, and bids that come to them.
-ghost use Rattle.std.specs.Prelude.{◌≡◌, ◌+◌, ◌<◌, map, length, get_or, slice_index_or, slice_set};
+ghost use Rattle.std.specs.Prelude.{◌≡◌, ◌+◌, ◌<◌, map, length, slice_index_or, slice_set};
 ghost use Rattle.auction.specs.Auctions.{listings_of};
 ghost use Rattle.auction.specs.Lots.{listing_of, unlisted, lot_at, with_lot, excusing, entering, bid_tests, lot_tests};
 ghost use Rattle.share.specs.Refusals.{numbered, unless, left_by, first_nonzero};
@@ -21,7 +21,7 @@ fn excuse_from(lots: &mut [Lot], i: usize, member: u16)
 // Takes a bid in the lot at a place.
 fn enter_in(lots: &mut [Lot], i: usize, bid: Bid) -> Result<u16, Refusal>
     requires { i < length lots.old }
-    ensures answer { numbered result ≡ unless (first_nonzero (bid_tests (slice_index_or (map listing_of lots.old) i unlisted) bid)) (length (get_or (map listing_of lots.old) i unlisted).bids + 1) }
+    ensures answer { numbered result ≡ unless (first_nonzero (bid_tests (slice_index_or (map listing_of lots.old) i unlisted) bid)) (length (slice_index_or (map listing_of lots.old) i unlisted).bids + 1) }
     ensures after { map listing_of lots.new ≡ slice_set (map listing_of lots.old) i (left_by (first_nonzero (bid_tests (slice_index_or (map listing_of lots.old) i unlisted) bid)) (slice_index_or (map listing_of lots.old) i unlisted) (entering bid (slice_index_or (map listing_of lots.old) i unlisted))) }
 {
     lots[i].enter(bid)

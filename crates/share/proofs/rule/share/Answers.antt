@@ -1,6 +1,6 @@
 use Rattle.std.proofs.Common.{◌≡◌, ◌+◌, map, take, ◌∙◌, arith}
 use Rattle.share.specs.Rule.{total}
-use Rattle.share.proofs.Shares.{share-at-most, total-item, total-take-le, total-front}
+use Rattle.share.proofs.Shares.{share-at_most, total-item, total-take-le, total-front}
 use Rattle.share.proofs.rule.share.Goals as goal
 
 pub sum-requires : goal.sum-requires
@@ -26,4 +26,4 @@ returns g c =
     let next = total-item f c.args.items.now c.args.i _ c.requires.within c.index-items-i.is in
     let after : c.sum.result + c.weight.result ≡ total (take (c.args.i + 1) ws) = omega arith in
     let value = c.cut.ensures ∙ rw (after, before, c.sum-2.ensures) in
-    record { value = value; bound = rw value (share-at-most c.args.amount ws c.args.i) }
+    record { value = value; bound = rw value (share-at_most c.args.amount ws c.args.i) }

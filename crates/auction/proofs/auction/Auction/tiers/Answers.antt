@@ -1,7 +1,7 @@
 use Rattle.std.proofs.Common.{◌∙◌, arith}
 use Rattle.auction.specs.Auctions.{listings_of}
 use Rattle.auction.specs.Earning.{senior_by, subordinate_by}
-use Rattle.auction.proofs.Earnings.{so-far-all, step, tiers-is}
+use Rattle.auction.proofs.Earnings.{so_far-all, step, tiers-is}
 use Rattle.auction.proofs.Listings.{length-listings}
 use Rattle.auction.proofs.auction.Auction.tiers.Goals as goal
 
@@ -33,5 +33,5 @@ returns c =
     let es = c.args.earned.now in
     let amount = c.args.amount.0 in
     tiers-is ls es amount c.loop-i.tiers.first.0 c.loop-i.tiers.second.0 c.loop-i.tiers.third.0 c.if-is_silent.ensures c.loop-i.invariant.0
-    (c.loop-i.invariant.1 ∙ so-far-all subordinate_by ls es amount c.requires.long c.loop-i.i (omega (arith, c.loop-i-test.false, length-listings self)))
-    (c.loop-i.invariant.2 ∙ so-far-all senior_by ls es amount c.requires.long c.loop-i.i (omega (arith, c.loop-i-test.false, length-listings self)))
+    (c.loop-i.invariant.1 ∙ so_far-all subordinate_by ls es amount c.requires.long c.loop-i.i (omega (arith, c.loop-i-test.false, length-listings self)))
+    (c.loop-i.invariant.2 ∙ so_far-all senior_by ls es amount c.requires.long c.loop-i.i (omega (arith, c.loop-i-test.false, length-listings self)))

@@ -3,7 +3,7 @@ use Rattle.std.proofs.lemmas.Int.{to_z-of_z}
 use Rattle.lot.specs.Average.{worth_down_to}
 use Rattle.lot.specs.Lots.{entries_of}
 use Rattle.lot.proofs.Magnitudes.{times-fits, fits-64}
-use Rattle.lot.proofs.Worths.{above_within, parts-few, down-to-small}
+use Rattle.lot.proofs.Worths.{above_within, parts-few, down_to-small}
 use Rattle.lot.proofs.bids.Bids.worth_down_to.Goals as goal
 
 pub overflow_sub-rest : goal.overflow_sub-rest
@@ -42,7 +42,7 @@ sum_fits : (c : goal.After-from-2) → SFits w64 (worth_down_to c.args.whose c.a
 sum_fits c = fits-64 _ (omega (
   arith,
   parts-few c.args.whose c.args.parts c.args.self.now c.args.last c.requires.some c.requires.reaches,
-  down-to-small c.args.whose c.args.parts c.args.self.now c.args.last c.requires.some c.requires.reaches,
+  down_to-small c.args.whose c.args.parts c.args.self.now c.args.last c.requires.some c.requires.reaches,
 ))
 
 pub overflow_add-result : goal.overflow_add-result

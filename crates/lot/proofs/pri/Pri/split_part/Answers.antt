@@ -1,7 +1,7 @@
 use Rattle.std.proofs.Common.{◌≡◌, ◌*◌, ◌/◌, ◌≤◌, ◌-ℤ◌, nat_abs, ap, ◌∙◌, ap₂, arith, w32, w64, Fits, SFits, to_z, of_z, rules}
 use Rattle.std.proofs.lemmas.Int.{to_z-of_z}
 use Rattle.lot.specs.Class.{natural, subordinate_threshold}
-use Rattle.lot.proofs.Splits.{distance_read, distance-small, part-at-most}
+use Rattle.lot.proofs.Splits.{distance_read, distance-small, part-at_most}
 use Rattle.lot.proofs.pri.Pri.split_part.Goals as goal
 
 bp-fits : (c : goal.After-from-2) → SFits w32 c.args.bp.0
@@ -26,7 +26,7 @@ part-is c =
     ∙ ap (λ n. c.args.amount.0 * natural (c.args.bp.0 -ℤ subordinate_threshold c.args.price.0 c.args.self.dollars) / n) c.from-3.ensures
 
 bounded : (c : goal.After-from-3) → c.args.amount.0 * natural (c.args.bp.0 -ℤ subordinate_threshold c.args.price.0 c.args.self.dollars) / c.args.self.dollars ≤ c.args.amount.0
-bounded c = part-at-most c.args.amount.0 _ c.args.self.dollars (distance-small c.args.price.0 c.args.self.dollars c.args.bp.0 c.requires)
+bounded c = part-at_most c.args.amount.0 _ c.args.self.dollars (distance-small c.args.price.0 c.args.self.dollars c.args.bp.0 c.requires)
 
 pub overflow_cast-result : goal.overflow_cast-result
 overflow_cast-result c = let whole : Fits w64 c.args.amount.0 = search rules in rw (part-is c) (omega (arith, bounded c))

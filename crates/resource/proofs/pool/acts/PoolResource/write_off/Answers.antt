@@ -3,7 +3,7 @@ use Rattle.std.proofs.lemmas.List.{length-set}
 use Rattle.share.specs.Rule.{total, lowered}
 use Rattle.share.proofs.Shares.{within-weight, lowers}
 use Rattle.resource.specs.Payers.{Light, weights_of}
-use Rattle.resource.proofs.Weights.{length-weights, get_d_front, lowered-more, lowered-all, lowered-light}
+use Rattle.resource.proofs.Weights.{length-weights, get_or-front, lowered-more, lowered-all, lowered-light}
 use Rattle.resource.proofs.pool.acts.PoolResource.write_off.Goals as goal
 
 pub borne_at-requires : goal.borne_at-requires
@@ -17,13 +17,13 @@ overflow_sub-rest c =
     let p = c.args.self.now in
     let ws = weights_of (take p.count p.weights) in
     let long = length-weights p.count p.weights (omega arith) in
-    let read = get_d_front p.count p.weights c.loop-i.i c.loop-i-test.true (omega arith) in
+    let read = get_or-front p.count p.weights c.loop-i.i c.loop-i-test.true (omega arith) in
     omega (arith, within-weight p.standing.0 ws c.loop-i.i (omega arith) p.covered)
 
 pub loop-i-preserved : goal.loop-i-preserved
 loop-i-preserved c =
     let p = c.args.self.now in
-    let read = get_d_front p.count p.weights c.loop-i.i c.loop-i-test.true (omega arith) in (
+    let read = get_or-front p.count p.weights c.loop-i.i c.loop-i-test.true (omega arith) in (
       simp length-set c.loop-i.invariant.0,
       lowered-more c.loop-i.rest _ _ c.loop-i.i (omega arith) (omega arith) c.loop-i.invariant.1,
     )
