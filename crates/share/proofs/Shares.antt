@@ -1,5 +1,5 @@
 -- The laws of the share rule. Assumes nothing.
-use Rattle.std.proofs.Common.{◌≡◌, ℕ, zero, suc, ◌+◌, ◌-◌, ◌*◌, ◌/◌, ◌<◌, ◌≤◌, List, [], ◌∷◌, map, length, get_or, take, sym, refl, ap, ◌∙◌, subst, inl, inr, mul-le-mul_right, mul_comm, mul-le-mul_left, mul-zero, zero-add, mul-add, mul-div_cancel, add-one, arith}
+use Rattle.std.proofs.Common.{◌≡◌, ℕ, zero, suc, ◌+◌, ◌-◌, ◌*◌, ◌/◌, ◌<◌, ◌≤◌, List, map, length, get_or, take, sym, ap, ◌∙◌, subst, inl, inr, mul-le-mul_right, mul_comm, mul-le-mul_left, mul-zero, zero-add, mul-add, mul-div_cancel, add-one, arith}
 use native.Mathlib.Nat.{div-zero, zero-div, sub-zero}
 use Rattle.std.specs.List.{range_with_len}
 use Rattle.std.proofs.lemmas.List.{take_all, take-take, get_or-map, length-map, take-map}

@@ -1,31 +1,34 @@
 // Why something is declined. Each case has a number, which `number` in specs/Refusals.antt defines.
 ghost use Rattle.share.specs.Refusals.{number, reason_of};
-ghost use Rattle.std.specs.Prelude.{◌≡◌};
+ghost use Rattle.std.specs.Prelude.{◌≡◌, Some};
+
+use std::error::Error;
+use std::fmt;
 
 #[derive(Clone, Copy, PartialEq, Eq, Debug)]
 pub enum Refusal {
     // the call or question does not belong to the phase
-    WrongPhase,
+    WrongPhase = 1,
     // a number names nothing: a member outside 1 to 32, a payer that a pool has not
-    OutOfRange,
+    OutOfRange = 2,
     // the member is not enrolled
-    NotEnrolled,
+    NotEnrolled = 3,
     // the member to enrol is enrolled
-    AlreadyEnrolled,
+    AlreadyEnrolled = 4,
     // an amount, a size, a price or a count is outside its limits
-    OutsideLimits,
+    OutsideLimits = 5,
     // a lot's terms are not as they must be
-    LotTerms,
+    LotTerms = 6,
     // an All or Nothing bid is not for the whole lot
-    AllOrNothingSize,
+    AllOrNothingSize = 7,
     // the member has an All or Nothing bid in the lot already
-    SecondAllOrNothing,
+    SecondAllOrNothing = 8,
     // the lot holds as many bids as it can
-    LotFull,
+    LotFull = 9,
     // a call has excused the member from the lot
-    ExcusedByCall,
+    ExcusedByCall = 10,
     // a resource is to stand above its capacity
-    AboveCapacity,
+    AboveCapacity = 11,
 }
 
 impl Refusal {
@@ -33,19 +36,7 @@ impl Refusal {
     pub fn number(self) -> u8
         ensures { result ≡ number self }
     {
-        match self {
-            Refusal::WrongPhase => 1,
-            Refusal::OutOfRange => 2,
-            Refusal::NotEnrolled => 3,
-            Refusal::AlreadyEnrolled => 4,
-            Refusal::OutsideLimits => 5,
-            Refusal::LotTerms => 6,
-            Refusal::AllOrNothingSize => 7,
-            Refusal::SecondAllOrNothing => 8,
-            Refusal::LotFull => 9,
-            Refusal::ExcusedByCall => 10,
-            Refusal::AboveCapacity => 11,
-        }
+        self as u8
     }
 
     // The reason in words.
@@ -67,3 +58,14 @@ impl Refusal {
         }
     }
 }
+
+// The reason in words.
+impl fmt::Display for Refusal {
+    ghost output = { λ refusal. Some (reason_of refusal) };
+
+    fn fmt<W: fmt::Write>(&self, f: &mut fmt::Formatter<W>) -> fmt::Result {
+        f.write_str(self.reason())
+    }
+}
+
+impl Error for Refusal {}

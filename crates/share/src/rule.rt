@@ -26,11 +26,7 @@ pub fn sum<T: Weighted>(items: &[T]) -> u64
     requires { total (map T.heft items.now) ≤ limit }
     ensures { result ≡ total (map T.heft items.now) }
 {
-    let mut all = 0;
-    for x in items {
-        all += x.weight();
-    }
-    all
+    items.iter().map(T::weight).sum()
 }
 
 // What falls to the weight `own`, which comes after weights of `before`, where there are weights of `all`.
@@ -58,8 +54,6 @@ pub fn share<T: Weighted>(amount: u64, items: &[T], i: usize) -> u64
 }
 
 // The laws of the share rule, for every amount and all weights.
-pub fn share_laws() -> u8
+pub fn share_laws()
     ensures { ShareLaw }
-{
-    0
-}
+{}
