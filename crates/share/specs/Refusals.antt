@@ -1,5 +1,5 @@
 -- The refusals by number and in words, and tests in the order of their numbers. Assumes nothing.
-use Rattle.std.specs.Prelude.{ℕ, zero, suc, Bool, cond, ◌&&◌, List, [], ◌∷◌, Ok, Err, codes, Result, nat_le, nat_lt}
+use Rattle.std.specs.Prelude.{ℕ, zero, suc, Bool, cond, ◌&&◌, List, [], ◌∷◌, ◌++◌, Ok, Err, codes, decimal, Result, nat_le, nat_lt}
 use Rattle.share.specs.declared.refusal.Refusal.{Refusal}
 use Rattle.share.specs.declared.refusal.Refusal.TheVariants.{WrongPhase, OutOfRange, NotEnrolled, AlreadyEnrolled, OutsideLimits, LotTerms, AllOrNothingSize, SecondAllOrNothing, LotFull, ExcusedByCall, AboveCapacity}
 
@@ -30,6 +30,10 @@ reason_of SecondAllOrNothing = codes "second All or Nothing bid in the lot"
 reason_of LotFull = codes "lot full"
 reason_of ExcusedByCall = codes "excused by a call"
 reason_of AboveCapacity = codes "above capacity"
+
+-- what is printed of a refusal, as "refused 3: not enrolled"
+abbrev pub shown : Refusal → List ℕ
+shown e = codes "refused " ++ decimal (number e) ++ codes ": " ++ reason_of e
 
 -- an answer with its refusal by number
 abbrev pub numbered : {T : Type 0} → Result T Refusal → Result T ℕ

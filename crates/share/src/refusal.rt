@@ -1,5 +1,5 @@
 // Why something is declined. Each case has a number, which `number` in specs/Refusals.antt defines.
-ghost use Rattle.share.specs.Refusals.{number, reason_of};
+ghost use Rattle.share.specs.Refusals.{number, reason_of, shown};
 ghost use Rattle.std.specs.Prelude.{◌≡◌, Some};
 
 use std::error::Error;
@@ -59,12 +59,14 @@ impl Refusal {
     }
 }
 
-// The reason in words.
+// What a program prints of a refusal: its number and the reason.
 impl fmt::Display for Refusal {
-    ghost output = { λ refusal. Some (reason_of refusal) };
+    ghost output = { λ refusal. Some (shown refusal) };
 
     fn fmt<W: fmt::Write>(&self, f: &mut fmt::Formatter<W>) -> fmt::Result {
-        f.write_str(self.reason())
+        let number = self.number();
+        let reason = self.reason();
+        write!(f, "refused {number}: {reason}")
     }
 }
 
