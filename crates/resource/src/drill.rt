@@ -10,8 +10,7 @@ pub fn fill<R: Resource>(resource: &mut R, amount: Dollars) -> Dollars
     ensures after { R.standing resource.new ≡ min amount.0 (R.capacity resource.old) }
     ensures same { R.capacity resource.new ≡ R.capacity resource.old }
 {
-    let most = resource.capacity();
-    let filled = Dollars(amount.0.min(most.0));
+    let filled = amount.min(resource.capacity());
     let _ = resource.stand_at(filled);
     resource.standing()
 }

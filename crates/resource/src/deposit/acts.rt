@@ -9,14 +9,14 @@ use crate::resource::Resource;
 use share::refusal::Refusal;
 use share::units::Dollars;
 
-pub const MOST: u64 = 3_200_000_000;
+pub const MOST: Dollars = Dollars(3_200_000_000);
 
 impl Deposit {
     // A deposit of an amount, of which nothing stands for a loss yet.
     pub fn new(paid: Dollars) -> Result<Deposit, Refusal>
         ensures { as_made (numbered result) ≡ unless (deposit_refusal paid.0) (fresh paid.0) }
     {
-        if paid.0 > MOST {
+        if paid > MOST {
             return Err(Refusal::OutsideLimits);
         }
         Ok(Deposit {
@@ -44,7 +44,7 @@ impl Resource for Deposit {
     }
 
     fn stand_at(&mut self, n: Dollars) -> Result<(), Refusal> {
-        if n.0 > self.paid.0 {
+        if n > self.paid {
             return Err(Refusal::AboveCapacity);
         }
         self.standing = n;

@@ -115,7 +115,7 @@ impl Resource for Pool {
         ensures same { capacity_of self.new ≡ capacity_of self.old }
         ensures each { payers_of self.new ≡ payers_of self.old }
     {
-        if n.0 > self.capacity().0 {
+        if n > self.capacity {
             return Err(Refusal::AboveCapacity);
         }
         self.standing = n;
