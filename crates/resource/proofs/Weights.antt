@@ -1,11 +1,13 @@
 -- The weights of a pool: what its limits give, and arrays of weights filled from the front. Assumes nothing.
-use Rattle.std.specs.Prelude.{◌≡◌, ℕ, zero, suc, ◌+◌, ◌-◌, ◌<◌, ◌≤◌, true, false, ◌⊎◌, List, [], ◌∷◌, ◌++◌, map, length, get_or, take, nat_lt, slice_index, slice_index_or, slice_set, refl}
-use Rattle.std.proofs.Common.{sym, ap, subst, ◌∙◌, inl, inr, zero-add, arith}
+use Rattle.std.specs.Prelude.{◌≡◌, ℕ, ◌+◌, ◌-◌, ◌<◌, ◌≤◌, false, List, [], ◌∷◌, ◌++◌, map, length, get_or, take, nat_lt, slice_index, slice_set}
+use Rattle.std.proofs.Common.{sym, ap, subst, ◌∙◌, zero-add, arith}
 use Rattle.std.specs.List.{range_with_len}
 use Rattle.std.proofs.lemmas.List.FromFn.{length-map-range_with_len, get_or-map-range_with_len, map-range_with_len_more}
-use Rattle.std.proofs.lemmas.List.{length-map, length-take, take_all, take-map, take_more, take_more_set, map-set, get_or-map, get_or-take}
+use Rattle.std.proofs.lemmas.List.{length-map, length-take, take-map, take_more_set, map-set, get_or-map, get_or-take}
+use Rattle.std.proofs.lemmas.List.Folds.{list_any_none, list_any_at}
+use Rattle.std.proofs.lemmas.List.Elements.{All-from_get_or}
 use Rattle.std.proofs.lemmas.Bool.Decides.{nat_tests}
-use Rattle.std.proofs.lemmas.Bool.{or_left, or_right, or_from, lt-ltb, le-ltb}
+use Rattle.std.proofs.lemmas.Bool.{le-ltb}
 use Rattle.share.specs.Rule.{left_of, lowered}
 use Rattle.resource.specs.Payers.{Light, heavy, most_weight, pool_refusal, worth, weights_of}
 use Rattle.share.proofs.Shares.{adds_up_within, within-weight, near, nothing, lowers}
@@ -28,16 +30,6 @@ get_or-front n ws i h long =
     let inside : i < length (take n ws) = simp length-take (omega arith) in
     get_or-map worth (take n ws) i (record { 0 = 0 }) 0 inside ∙ ap worth (get_or-take n ws i (record { 0 = 0 }) h)
 
--- a copy, element by element: one more, and all
-pub copied_more : (ws ps : List Dollars) (i : ℕ) (d : Dollars) → i < length ws → i < length ps → take i ws ≡ take i ps →
-    take (i + 1) (slice_set ws i (slice_index_or ps i d)) ≡ take (i + 1) ps
-copied_more ws ps i d hw hp same =
-    take_more_set ws i (slice_index_or ps i d) hw ∙ ap (λ t. t ++ (slice_index_or ps i d ∷ [])) same ∙ sym (take_more ps i d hp)
-
-pub copied_all : (ws ps : List Dollars) (i : ℕ) → i ≡ length ps → take i ws ≡ take i ps → take (length ps) ws ≡ ps
-copied_all ws ps i done same =
-    subst (λ n. take n ws ≡ ps) done (same ∙ take_all i ps (omega arith))
-
 -- each weight lowered: one more, and all
 pub lowered-more : (rest : List Dollars) (d : Dollars) (f : ℕ → ℕ) (i : ℕ) → i < length rest → d.0 ≡ f i →
     take i (weights_of rest) ≡ map f (range_with_len 0 i) → take (i + 1) (weights_of (slice_set rest i d)) ≡ map f (range_with_len 0 (i + 1))
@@ -56,27 +48,18 @@ lowered-all rest a ws i n end long done =
     ∙ subst (λ m. take m (weights_of rest) ≡ map (left_of a ws) (range_with_len 0 m)) end done
     ∙ ap (λ m. map (left_of a ws) (range_with_len 0 m)) (sym long)
 
--- a weight above the greatest is found, and there is none among light ones
-pub heavy-at : (ws : List ℕ) (i : ℕ) → i < length ws → most_weight < slice_index ws i → heavy ws ≡ true
-heavy-at [] i h above = absurd (omega arith)
-heavy-at (w ∷ ws) zero h above = or_left (nat_lt most_weight w) (heavy ws) (lt-ltb most_weight w above)
-heavy-at (w ∷ ws) (suc i) h above = or_right (nat_lt most_weight w) (heavy ws) (heavy-at ws i (omega arith) above)
+-- weights that pass the test are light, and light ones pass it
+pub heavy-light : (ws : List ℕ) → heavy ws ≡ false → Light ws
+heavy-light ws h k in' = grind (arith, nat_tests, list_any_at (nat_lt most_weight) ws k 0 in')
 
 pub light-heavy : (ws : List ℕ) → Light ws → heavy ws ≡ false
-light-heavy [] light = refl
-light-heavy (w ∷ ws) light = or_from (nat_lt most_weight w) (heavy ws) (le-ltb most_weight w (light 0 (omega arith))) (light-heavy ws (λ k h. light (suc k) (omega arith)))
+light-heavy ws light = list_any_none (nat_lt most_weight) ws (All-from_get_or (λ w. nat_lt most_weight w ≡ false) ws 0 (λ k in'. le-ltb most_weight (slice_index ws k) (light k in')))
 
 -- a pool has as many weights as payers
 pub length-payers : (p : Pool) → length (payers_of p) ≡ p.count
 length-payers p = length-weights p.count p.weights (omega (arith, p.few, p.whole))
 
--- which pools are refused
-pub count-refused : (ws : List ℕ) → (length ws < 1) ⊎ (32 < length ws) → pool_refusal ws ≡ 5
-count-refused ws h = elim h [ inl few ↦ grind (arith, nat_tests) | inr many ↦ grind (arith, nat_tests) ]
-
-pub heavy-refused : (ws : List ℕ) → heavy ws ≡ true → pool_refusal ws ≡ 5
-heavy-refused ws h = grind (arith, nat_tests)
-
+-- which pools are taken
 pub light-taken : (ws : List ℕ) → 0 < length ws → length ws ≤ 32 → heavy ws ≡ false → pool_refusal ws ≡ 0
 light-taken ws some few h = grind (arith, nat_tests)
 

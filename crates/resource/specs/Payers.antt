@@ -1,5 +1,6 @@
 -- The payers of a pool, by their weights. Assumes nothing.
-use Rattle.std.specs.Prelude.{ℕ, ◌<◌, ◌≤◌, Bool, false, cond, ◌||◌, List, [], ◌∷◌, map, length, nat_lt, slice_index}
+use Rattle.std.specs.Prelude.{ℕ, ◌<◌, ◌≤◌, Bool, cond, ◌||◌, List, map, length, nat_lt, slice_index}
+use Rattle.std.specs.List.{list_any}
 use Rattle.share.specs.declared.units.Dollars.{Dollars}
 
 -- the number that an amount is
@@ -20,8 +21,7 @@ Light ws = (k : ℕ) → k < length ws → slice_index ws k ≤ most_weight
 
 -- whether some weight is above the greatest
 abbrev pub heavy : List ℕ → Bool
-heavy [] = false
-heavy (w ∷ ws) = nat_lt most_weight w || heavy ws
+heavy ws = list_any (nat_lt most_weight) ws
 
 -- the number of the refusal of a pool over weights: 5 unless it has 1 to 32 payers and no weight is above the greatest, else 0
 abbrev pub pool_refusal : List ℕ → ℕ

@@ -1,7 +1,8 @@
 -- The weights of a pool come to no more than the greatest capacity of a resource. Assumes nothing.
 use Rattle.std.specs.Prelude.{ℕ, ◌≤◌, List, length, take}
 use Rattle.std.proofs.Common.{arith}
-use Rattle.std.proofs.ByRecursion.{All-from_get_or, sum_by_le}
+use Rattle.std.proofs.lemmas.List.Elements.{All-from_get_or}
+use Rattle.std.proofs.lemmas.List.Sums.{sum_by-le}
 use Rattle.std.proofs.lemmas.List.{length-map, length-take}
 use Rattle.share.specs.Rule.{total}
 use Rattle.share.specs.declared.units.Dollars.{Dollars}
@@ -11,7 +12,7 @@ use Rattle.resource.specs.declared.pool.Pool.{Pool}
 
 pub light-total : (ws : List ℕ) → Light ws → length ws ≤ 32 → total ws ≤ 3200000000
 light-total ws light few =
-    let most = sum_by_le (λ x. x) 100000000 ws (All-from_get_or (λ x. x ≤ 100000000) ws 0 light) in
+    let most = sum_by-le (λ x. x) 100000000 ws (All-from_get_or (λ x. x ≤ 100000000) ws 0 light) in
     omega arith
 
 pub front-total : (n : ℕ) (ws : List Dollars) → n ≤ 32 → Light (weights_of (take n ws)) → total (weights_of (take n ws)) ≤ 3200000000

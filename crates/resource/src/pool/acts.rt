@@ -1,7 +1,7 @@
 // What a pool does.
 ghost use Rattle.std.specs.Prelude.{◌≡◌, ℕ, ◌-◌, ◌<◌, length, slice_index};
 ghost use Rattle.resource.specs.Meaning.{stand_refusal, stood_at};
-ghost use Rattle.resource.specs.Payers.{weights_of, pool_refusal};
+ghost use Rattle.resource.specs.Payers.{weights_of, heavy, pool_refusal};
 ghost use Rattle.resource.specs.Pools.{payers_of, capacity_of, standing_of, payer_refusal, dollars_in, fresh, as_made, PoolLaw};
 ghost use Rattle.share.specs.Refusals.{numbered, unless};
 ghost use Rattle.share.specs.Rule.{share_of, lowered};
@@ -18,21 +18,26 @@ pub const MOST_PAYERS: usize = 32;
 
 pub const MOST_WEIGHT: u64 = 100_000_000;
 
+// Whether some weight is above the greatest.
+fn some_heavy(payers: &[Dollars]) -> bool
+    ensures { result ≡ heavy (weights_of payers.now) }
+{
+    payers
+        .iter()
+        .map(|weight| weight.0)
+        .any(|weight| weight > MOST_WEIGHT)
+}
+
 impl Pool {
     // A pool of these payers, of which nothing stands for a loss yet.
     pub fn new(payers: &[Dollars]) -> Result<Pool, Refusal>
         ensures { as_made (numbered result) ≡ unless (pool_refusal (weights_of payers.now)) (fresh (weights_of payers.now)) }
     {
-        if payers.len() < 1 || payers.len() > MOST_PAYERS {
+        if payers.is_empty() || payers.len() > MOST_PAYERS || some_heavy(payers) {
             return Err(Refusal::OutsideLimits);
         }
         let mut weights = [Dollars(0); 32];
-        for i in 0..payers.len() {
-            if payers[i].0 > MOST_WEIGHT {
-                return Err(Refusal::OutsideLimits);
-            }
-            weights[i] = payers[i];
-        }
+        weights[..payers.len()].copy_from_slice(payers);
         Ok(Pool {
             weights,
             count: payers.len(),
