@@ -3,7 +3,7 @@ use Rattle.std.specs.Prelude.{◌≡◌, ℕ, ◌+◌, ◌-◌, ◌<◌, ◌≤�
 use Rattle.std.proofs.Common.{sym, ap, subst, ◌∙◌, zero-add, arith}
 use Rattle.std.specs.List.{range_with_len}
 use Rattle.std.proofs.lemmas.List.FromFn.{length-map-range_with_len, get_or-map-range_with_len, map-range_with_len_more}
-use Rattle.std.proofs.lemmas.List.{length-map, length-take, take-map, take_more_set, map-set, get_or-map, get_or-take}
+use Rattle.std.proofs.lemmas.List.{length-map, length-take, take-map, take_more_set, map-set, get_or-map}
 use Rattle.std.proofs.lemmas.List.Folds.{list_any_none, list_any_at}
 use Rattle.std.proofs.lemmas.List.Elements.{All-from_get_or}
 use Rattle.std.proofs.lemmas.Bool.Decides.{nat_tests}
@@ -21,16 +21,7 @@ lowered-light a ws light k h =
     let is = get_or-map-range_with_len (left_of a ws) 0 (length ws) k k 0 short (zero-add k) in
     omega (arith, light k short)
 
--- the first n weights of an array
-pub length-weights : (n : ℕ) (ws : List Dollars) → n ≤ length ws → length (weights_of (take n ws)) ≡ n
-length-weights n ws h = simp (length-map, length-take) (omega arith)
-
-pub get_or-front : (n : ℕ) (ws : List Dollars) (i : ℕ) → i < n → n ≤ length ws → slice_index (weights_of (take n ws)) i ≡ (get_or ws i (record { 0 = 0 })).0
-get_or-front n ws i h long =
-    let inside : i < length (take n ws) = simp length-take (omega arith) in
-    get_or-map worth (take n ws) i (record { 0 = 0 }) 0 inside ∙ ap worth (get_or-take n ws i (record { 0 = 0 }) h)
-
--- each weight lowered: one more, and all
+-- each weight lowered: one more
 pub lowered-more : (rest : List Dollars) (d : Dollars) (f : ℕ → ℕ) (i : ℕ) → i < length rest → d.0 ≡ f i →
     take i (weights_of rest) ≡ map f (range_with_len 0 i) → take (i + 1) (weights_of (slice_set rest i d)) ≡ map f (range_with_len 0 (i + 1))
 lowered-more rest d f i h new before =
@@ -41,13 +32,6 @@ lowered-more rest d f i h new before =
     ∙ ap (λ x. map f (range_with_len 0 i) ++ (x ∷ [])) new
     ∙ sym (map-range_with_len_more f 0 i i (zero-add i))
 
-pub lowered-all : (rest : List Dollars) (a : ℕ) (ws : List ℕ) (i n : ℕ) → i ≡ n → length ws ≡ n →
-    take i (weights_of rest) ≡ map (left_of a ws) (range_with_len 0 i) → weights_of (take n rest) ≡ lowered a ws
-lowered-all rest a ws i n end long done =
-    sym (take-map worth n rest)
-    ∙ subst (λ m. take m (weights_of rest) ≡ map (left_of a ws) (range_with_len 0 m)) end done
-    ∙ ap (λ m. map (left_of a ws) (range_with_len 0 m)) (sym long)
-
 -- weights that pass the test are light, and light ones pass it
 pub heavy-light : (ws : List ℕ) → heavy ws ≡ false → Light ws
 heavy-light ws h k in' = grind (arith, nat_tests, list_any_at (nat_lt most_weight) ws k 0 in')
@@ -57,7 +41,7 @@ light-heavy ws light = list_any_none (nat_lt most_weight) ws (All-from_get_or (�
 
 -- a pool has as many weights as payers
 pub length-payers : (p : Pool) → length (payers_of p) ≡ p.count
-length-payers p = length-weights p.count p.weights (omega (arith, p.few, p.whole))
+length-payers p = simp (length-map, length-take) (omega (arith, p.few, p.whole))
 
 -- which pools are taken
 pub light-taken : (ws : List ℕ) → 0 < length ws → length ws ≤ 32 → heavy ws ≡ false → pool_refusal ws ≡ 0
@@ -77,6 +61,18 @@ pool-law p = record {
   written_off = lowers (standing_of p) (payers_of p) p.covered;
 }
 
--- the weight at a place, as the array has it
-pub weight-at : (p : Pool) (i : ℕ) → i < length (payers_of p) → (get_or p.weights i (record { 0 = 0 })).0 ≡ slice_index (payers_of p) i
-weight-at p i h = sym (get_or-front p.count p.weights i (omega (arith, length-payers p)) (omega (arith, p.few, p.whole)))
+-- weights that are read from amounts
+pub length-read : (ps : List Dollars) (ws : List ℕ) → weights_of ps ≡ ws → length ps ≡ length ws
+length-read ps ws same = sym (length-map ps worth) ∙ ap length same
+
+pub weight-read : (ps : List Dollars) (ws : List ℕ) (i : ℕ) → weights_of ps ≡ ws → i < length ps → (get_or ps i (record { 0 = 0 })).0 ≡ slice_index ws i
+weight-read ps ws i same inside = sym (get_or-map worth ps i (record { 0 = 0 }) 0 inside) ∙ ap (λ xs. slice_index xs i) same
+
+-- the weights that are left by a write-off, once each is lowered
+pub lowered-all : (p : Pool) (rest : List Dollars) (i : ℕ) → i ≡ length (payers_of p) →
+    take i (weights_of rest) ≡ map (left_of (standing_of p) (payers_of p)) (range_with_len 0 i) →
+    weights_of (take p.count rest) ≡ lowered (standing_of p) (payers_of p)
+lowered-all p rest i end done =
+    sym (take-map worth p.count rest)
+    ∙ subst (λ n. take n (weights_of rest) ≡ map (left_of (standing_of p) (payers_of p)) (range_with_len 0 n)) (end ∙ length-payers p) done
+    ∙ ap (λ n. map (left_of (standing_of p) (payers_of p)) (range_with_len 0 n)) (sym (length-payers p))

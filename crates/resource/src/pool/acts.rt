@@ -50,7 +50,7 @@ impl Pool {
     fn payers(&self) -> &[Dollars]
         ensures { weights_of result.now ≡ payers_of self.now }
     {
-        &self.weights[0..self.count]
+        &self.weights[..self.count]
     }
 
     // How many payers there are.
@@ -64,10 +64,11 @@ impl Pool {
     fn place(&self, payer: u16) -> Result<usize, Refusal>
         ensures { numbered result ≡ unless (payer_refusal (length (payers_of self.now)) payer) (payer - 1) }
     {
-        if payer < 1 || payer > self.count() {
-            return Err(Refusal::OutOfRange);
+        if (1..=self.count()).contains(&payer) {
+            Ok(usize::from(payer) - 1)
+        } else {
+            Err(Refusal::OutOfRange)
         }
-        Ok(usize::from(payer) - 1)
     }
 
     // A payer's weight.
@@ -75,7 +76,7 @@ impl Pool {
         ensures { dollars_in (numbered result) ≡ unless (payer_refusal (length (payers_of self.now)) payer) (slice_index (payers_of self.now) (payer - 1)) }
     {
         let place = self.place(payer)?;
-        Ok(self.weights[place])
+        Ok(self.payers()[place])
     }
 
     // What the payer at a place bears.
@@ -133,8 +134,8 @@ impl Resource for Pool {
         ensures each { payers_of self.new ≡ lowered (standing_of self.old) (payers_of self.old) }
     {
         let mut rest = self.weights;
-        for i in 0..self.count {
-            rest[i] = Dollars(self.weights[i].0 - self.borne_at(i).0);
+        for (place, weight) in self.payers().iter().enumerate() {
+            rest[place] = Dollars(weight.0 - self.borne_at(place).0);
         }
         self.capacity = Dollars(self.capacity.0 - self.standing.0);
         self.weights = rest;

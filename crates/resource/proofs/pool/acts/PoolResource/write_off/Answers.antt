@@ -1,54 +1,44 @@
-use Rattle.std.proofs.Common.{◌≡◌, take, sym, refl, ap, ◌∙◌, subst, arith}
+use Rattle.std.proofs.Common.{sym, ap, subst, arith}
 use Rattle.std.proofs.lemmas.List.{length-set}
-use Rattle.share.specs.Rule.{total, lowered}
+use Rattle.share.specs.Rule.{total}
 use Rattle.share.proofs.Shares.{within-weight, lowers}
-use Rattle.resource.specs.Payers.{Light, weights_of}
-use Rattle.resource.proofs.Weights.{length-weights, get_or-front, lowered-more, lowered-all, lowered-light}
+use Rattle.resource.specs.Payers.{Light}
+use Rattle.resource.specs.Pools.{payers_of, standing_of}
+use Rattle.resource.proofs.Weights.{length-payers, length-read, weight-read, lowered-more, lowered-all, lowered-light}
 use Rattle.resource.proofs.pool.acts.PoolResource.write_off.Goals as goal
-
-pub borne_at-requires : goal.borne_at-requires
-borne_at-requires c =
-    let p = c.args.self.now in
-    let long = length-weights p.count p.weights (omega arith) in
-    omega arith
 
 pub overflow_sub-rest : goal.overflow_sub-rest
 overflow_sub-rest c =
     let p = c.args.self.now in
-    let ws = weights_of (take p.count p.weights) in
-    let long = length-weights p.count p.weights (omega arith) in
-    let read = get_or-front p.count p.weights c.loop-i.i c.loop-i-test.true (omega arith) in
-    omega (arith, within-weight p.standing.0 ws c.loop-i.i (omega arith) p.covered)
+    let long = length-read _ _ c.payers-weight-items.ensures in
+    let read = weight-read _ _ c.loop-place.place c.payers-weight-items.ensures c.loop-place-test.true in
+    omega (arith, within-weight (standing_of p) (payers_of p) c.loop-place.place (omega arith) p.covered)
 
-pub loop-i-preserved : goal.loop-i-preserved
-loop-i-preserved c =
+pub loop-place-preserved : goal.loop-place-preserved
+loop-place-preserved c =
     let p = c.args.self.now in
-    let read = get_or-front p.count p.weights c.loop-i.i c.loop-i-test.true (omega arith) in (
-      simp length-set c.loop-i.invariant.0,
-      lowered-more c.loop-i.rest _ _ c.loop-i.i (omega arith) (omega arith) c.loop-i.invariant.1,
-    )
+    let long = length-read _ _ c.payers-weight-items.ensures in
+    let read = weight-read _ _ c.loop-place.place c.payers-weight-items.ensures c.loop-place-test.true in
+    record {
+      room = simp length-set c.loop-place.invariant.room;
+      lowered_so_far = lowered-more c.loop-place.rest _ _ c.loop-place.place (omega (arith, p.few, length-payers p)) (omega (arith, c.borne_at.ensures)) c.loop-place.invariant.lowered_so_far;
+    }
 
 pub invariant_of-self : goal.invariant_of-self
 invariant_of-self c =
     let p = c.args.self.now in
-    let ws = weights_of (take p.count p.weights) in
-    let long = length-weights p.count p.weights (omega arith) in
-    let each : weights_of (take p.count c.loop-i.rest) ≡ lowered p.standing.0 ws =
-    lowered-all c.loop-i.rest p.standing.0 ws c.loop-i.i p.count (omega arith) long c.loop-i.invariant.1 in
+    let long = length-read _ _ c.payers-weight-items.ensures in
+    let each = lowered-all p c.loop-place.rest c.loop-place.place (omega arith) c.loop-place.invariant.lowered_so_far in
     record {
       some = p.some;
       few = p.few;
-      whole = c.loop-i.invariant.0;
-      light = subst Light (sym each) (lowered-light p.standing.0 ws p.light);
-      summed = omega (arith, p.summed, ap total each, lowers p.standing.0 ws p.covered);
+      whole = c.loop-place.invariant.room;
+      light = subst Light (sym each) (lowered-light (standing_of p) (payers_of p) p.light);
+      summed = omega (arith, p.summed, ap total each, lowers (standing_of p) (payers_of p) p.covered);
       covered = omega arith;
     }
 
-pub returns : goal.returns
-returns c =
-    let p = c.args.self.now in
-    let ws = weights_of (take p.count p.weights) in
-    let long = length-weights p.count p.weights (omega arith) in
-    let each : weights_of (take p.count c.loop-i.rest) ≡ lowered p.standing.0 ws =
-    lowered-all c.loop-i.rest p.standing.0 ws c.loop-i.i p.count (omega arith) long c.loop-i.invariant.1 in
-    record { lowers = ap total each ∙ lowers p.standing.0 ws p.covered; clears = refl; each = each }
+pub returns-clause-each : goal.returns-clause-each
+returns-clause-each c =
+    let long = length-read _ _ c.payers-weight-items.ensures in
+    lowered-all c.args.self.now c.loop-place.rest c.loop-place.place (omega arith) c.loop-place.invariant.lowered_so_far
