@@ -2,6 +2,5 @@
 #![tactic(auto)]
 
 pub mod deposit;
-pub mod drill;
 pub mod pool;
 pub mod resource;

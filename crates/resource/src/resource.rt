@@ -1,5 +1,5 @@
 // What every resource shows.
-ghost use Rattle.std.specs.Prelude.{◌≡◌, ℕ, ◌-◌, ◌≤◌};
+ghost use Rattle.std.specs.Prelude.{◌≡◌, ℕ, ◌-◌, ◌≤◌, min};
 ghost use Rattle.resource.specs.Meaning.{stand_refusal, stood_at};
 ghost use Rattle.share.specs.Refusals.{numbered, unless};
 ghost use Rattle.share.specs.Rule.{limit};
@@ -33,4 +33,33 @@ pub trait Resource {
     ghost covered: { (x : Self) → standing x ≤ capacity x };
 
     ghost bounded: { (x : Self) → capacity x ≤ limit };
+
+    // Stands for as much of an amount as it can, and says how much that is.
+    final fn fill(&mut self, amount: Dollars) -> Dollars
+        ensures value { result.0 ≡ min amount.0 (capacity self.old) }
+        ensures after { standing self.new ≡ min amount.0 (capacity self.old) }
+        ensures same { capacity self.new ≡ capacity self.old }
+    {
+        let filled = amount.min(self.capacity());
+        let _ = self.stand_at(filled);
+        self.standing()
+    }
+
+    // How much more it could stand for.
+    final fn free(&self) -> Dollars
+        ensures { result.0 ≡ capacity self.now - standing self.now }
+    {
+        Dollars(self.capacity().0 - self.standing().0)
+    }
+
+    // Writes it off, and says what it stood for.
+    final fn settle(&mut self) -> Dollars
+        ensures value { result.0 ≡ standing self.old }
+        ensures lowers { capacity self.new ≡ capacity self.old - standing self.old }
+        ensures clears { standing self.new ≡ 0 }
+    {
+        let lost = self.standing();
+        self.write_off();
+        lost
+    }
 }
