@@ -13,7 +13,6 @@ use super::Book;
 use crate::phase::Phase;
 use crate::seats::pour;
 use auction::roster::members::MOST_MEMBERS;
-use resource::drill::fill;
 use resource::resource::Resource;
 use share::refusal::Refusal;
 use share::units::Dollars;
@@ -74,7 +73,7 @@ impl<R: Resource> Book<R> {
         let left = pour(&mut self.seats.first, loss.0);
         let left = pour(&mut self.seats.second, left);
         let left = pour(&mut self.seats.third, left);
-        let left = left - fill(&mut self.house, Dollars(left)).0;
+        let left = left - self.house.fill(Dollars(left)).0;
         let left = pour(&mut self.seats.fifth, left);
         let left = pour(&mut self.seats.sixth, left);
         pour(&mut self.seats.seventh, left);
