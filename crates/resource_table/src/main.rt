@@ -2,19 +2,28 @@
 #![tactic(auto)]
 
 use resource::deposit::Deposit;
-use resource::drill::{fill, settle};
 use resource::pool::Pool;
 use resource::resource::Resource;
 use share::refusal::Refusal;
 use share::units::Dollars;
-use std::io;
 use std::io::{BufWriter, Write};
+use std::{array, fmt, io};
 
 #[derive(Clone, Copy)]
 enum Call {
     Stand(u64),
     Fill(u64),
     WriteOff,
+}
+
+impl fmt::Display for Call {
+    fn fmt<W: fmt::Write>(&self, f: &mut fmt::Formatter<W>) -> fmt::Result {
+        match self {
+            Call::Stand(n) => write!(f, "stand {n}"),
+            Call::Fill(n) => write!(f, "fill {n}"),
+            Call::WriteOff => write!(f, "write off"),
+        }
+    }
 }
 
 // The calls for a resource of a first capacity.
@@ -38,63 +47,52 @@ fn calls(first: u64) -> [Call; 13] {
 
 // The number of a refusal, 0 where there is none.
 fn number_of<T: Drop>(answer: Result<T, Refusal>) -> u8 {
-    match answer {
-        Ok(_) => 0,
-        Err(refusal) => refusal.number(),
+    answer.err().map_or(0, Refusal::number)
+}
+
+// Makes a call on any resource, and says the number of its refusal.
+fn make<R: Resource>(resource: &mut R, call: Call) -> u8 {
+    match call {
+        Call::Stand(n) => number_of(resource.stand_at(Dollars(n))),
+        Call::Fill(n) => {
+            let _ = resource.fill(Dollars(n));
+            0
+        }
+        Call::WriteOff => {
+            let _ = resource.settle();
+            0
+        }
     }
 }
 
 // Makes a call on any resource, and prints it with the number of its refusal and what it leaves.
 fn run<W: Write, R: Resource>(out: &mut W, resource: &mut R, call: Call) -> io::Result<()> {
-    let number = match call {
-        Call::Stand(n) => {
-            write!(out, "stand {n}")?;
-            number_of(resource.stand_at(Dollars(n)))
-        }
-        Call::Fill(n) => {
-            write!(out, "fill {n}")?;
-            let _ = fill(resource, Dollars(n));
-            0
-        }
-        Call::WriteOff => {
-            write!(out, "write off")?;
-            let _ = settle(resource);
-            0
-        }
-    };
+    let number = make(resource, call);
     let capacity = resource.capacity().0;
     let standing = resource.standing().0;
-    write!(out, " -> {number} capacity {capacity} standing {standing}")
+    write!(
+        out,
+        "{call} -> {number} capacity {capacity} standing {standing}"
+    )
 }
 
 // What a payer bears; nothing where there is no such payer.
 fn borne(pool: &Pool, payer: u16) -> u64 {
-    match pool.bears(payer) {
-        Ok(dollars) => dollars.0,
-        Err(_) => 0,
-    }
+    pool.bears(payer).map_or(0, |dollars| dollars.0)
 }
 
 // What each payer of a small pool bears.
 fn print_each<W: Write>(out: &mut W, pool: &Pool) -> io::Result<()> {
-    let last = pool.count();
-    write!(out, " bears [")?;
-    for payer in 1..=last {
-        let dollars = borne(pool, payer);
-        write!(out, "{dollars}")?;
-        if payer < last {
-            write!(out, ", ")?;
-        }
+    write!(out, " bears [{}", borne(pool, 1))?;
+    for payer in 2..=pool.count() {
+        write!(out, ", {}", borne(pool, payer))?;
     }
     writeln!(out, "]")
 }
 
 // What three payers of a large pool bear, and all together.
 fn print_some<W: Write>(out: &mut W, pool: &Pool) -> io::Result<()> {
-    let mut sum: u64 = 0;
-    for payer in 1..=32 {
-        sum = sum.saturating_add(borne(pool, payer));
-    }
+    let sum = (1..=pool.count()).fold(0u64, |sum, payer| sum.saturating_add(borne(pool, payer)));
     let first = borne(pool, 1);
     let middle = borne(pool, 16);
     let last = borne(pool, 32);
@@ -108,7 +106,7 @@ fn print_deposit<W: Write>(out: &mut W) -> io::Result<()> {
     };
     for call in calls(500) {
         run(out, &mut deposit, call)?;
-        writeln!(out, "")?;
+        writeln!(out)?;
     }
     Ok(())
 }
@@ -130,13 +128,10 @@ fn print_pool<W: Write>(out: &mut W, weights: &[Dollars]) -> io::Result<()> {
 
 // The weights k × k × 97,531 of the payers k = 1 to 32.
 fn squares() -> [Dollars; 32] {
-    let mut weights = [Dollars(0); 32];
-    let mut k: u64 = 0;
-    for weight in weights.iter_mut() {
-        k = k.saturating_add(1);
-        *weight = Dollars(k.saturating_mul(k).saturating_mul(97_531));
-    }
-    weights
+    array::from_fn(|place| {
+        let k = place as u64 + 1;
+        Dollars(k * k * 97_531)
+    })
 }
 
 fn print_refusals<W: Write>(out: &mut W) -> io::Result<()> {
