@@ -12,6 +12,7 @@ use Rattle.share.specs.Rule.{left_of, lowered}
 use Rattle.resource.specs.Payers.{Light, heavy, most_weight, pool_refusal, worth, weights_of}
 use Rattle.share.proofs.Shares.{adds_up_within, within-weight, near, nothing, lowers}
 use Rattle.resource.specs.Pools.{payers_of, standing_of, payer_refusal, PoolLaw}
+use Rattle.resource.specs.Totals.{pool-covered}
 use Rattle.resource.specs.declared.pool.Pool.{Pool}
 use Rattle.share.specs.declared.units.Dollars.{Dollars}
 
@@ -54,11 +55,11 @@ payer-within count n h = grind (arith, nat_tests)
 -- the laws of a pool
 pub pool-law : (p : Pool) → PoolLaw (standing_of p) (payers_of p)
 pool-law p = record {
-  in_full = adds_up_within (standing_of p) (payers_of p) p.covered;
-  within = λ i h. within-weight (standing_of p) (payers_of p) i h p.covered;
+  in_full = adds_up_within (standing_of p) (payers_of p) (pool-covered p);
+  within = λ i h. within-weight (standing_of p) (payers_of p) i h (pool-covered p);
   near = λ i h pos. near (standing_of p) (payers_of p) i h pos;
   none = λ i h. nothing (standing_of p) (payers_of p) i h;
-  written_off = lowers (standing_of p) (payers_of p) p.covered;
+  written_off = lowers (standing_of p) (payers_of p) (pool-covered p);
 }
 
 -- weights that are read from amounts

@@ -1,5 +1,5 @@
 -- The payers of a pool, by their weights. Assumes nothing.
-use Rattle.std.specs.Prelude.{ℕ, ◌<◌, ◌≤◌, Bool, cond, ◌||◌, List, map, length, nat_lt, slice_index}
+use Rattle.std.specs.Prelude.{ℕ, ◌<◌, ◌≤◌, Bool, cond, ◌||◌, List, map, length, take, nat_lt, slice_index}
 use Rattle.std.specs.List.{list_any}
 use Rattle.share.specs.declared.units.Dollars.{Dollars}
 
@@ -10,6 +10,10 @@ worth d = d.0
 -- the weights as numbers
 abbrev pub weights_of : List Dollars → List ℕ
 weights_of ws = map worth ws
+
+-- the first n of an array of weights, as numbers
+abbrev pub first_weights : ℕ → List Dollars → List ℕ
+first_weights n ws = weights_of (take n ws)
 
 -- the greatest weight of a payer
 abbrev pub most_weight : ℕ

@@ -1,14 +1,14 @@
 -- What a pool is. Assumes nothing.
-use Rattle.std.specs.Prelude.{◌≡◌, ℕ, ◌-◌, ◌*◌, ◌<◌, ◌≤◌, cond, ◌||◌, List, length, take, Ok, Err, Result, nat_lt, slice_index}
+use Rattle.std.specs.Prelude.{◌≡◌, ℕ, ◌-◌, ◌*◌, ◌<◌, ◌≤◌, cond, ◌||◌, List, length, Ok, Err, Result, nat_lt, slice_index}
 use Rattle.share.specs.Laws.{Within}
 use Rattle.share.specs.Rule.{total, share_of, shares_of, lowered}
 use Rattle.share.specs.declared.units.Dollars.{Dollars}
-use Rattle.resource.specs.Payers.{weights_of}
+use Rattle.resource.specs.Payers.{first_weights}
 use Rattle.resource.specs.declared.pool.Pool.{Pool}
 
 -- the payers' weights, in payer order
 abbrev pub payers_of : Pool → List ℕ
-payers_of p = weights_of (take p.count p.weights)
+payers_of p = first_weights p.count p.weights
 
 -- the sum of the weights
 abbrev pub capacity_of : Pool → ℕ

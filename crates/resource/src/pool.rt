@@ -1,6 +1,6 @@
 // A pool: payers who bear a loss together, each by its weight.
-ghost use Rattle.std.specs.Prelude.{◌≡◌, ◌<◌, ◌≤◌, length, take};
-ghost use Rattle.resource.specs.Payers.{weights_of, Light};
+ghost use Rattle.std.specs.Prelude.{◌≡◌, ◌<◌, ◌≤◌, length};
+ghost use Rattle.resource.specs.Payers.{first_weights, Light};
 ghost use Rattle.share.specs.Rule.{total};
 
 use share::units::Dollars;
@@ -17,7 +17,7 @@ pub struct Pool {
     ghost some: { 0 < count },
     ghost few: { count ≤ 32 },
     ghost whole: { length weights ≡ 32 },
-    ghost light: { Light (weights_of (take count weights)) },
-    ghost summed: { capacity.0 ≡ total (weights_of (take count weights)) },
-    ghost covered: { standing.0 ≤ total (weights_of (take count weights)) },
+    ghost light: { Light (first_weights count weights) },
+    ghost summed: { capacity.0 ≡ total (first_weights count weights) },
+    ghost covered: { standing.0 ≤ capacity.0 },
 }

@@ -5,7 +5,7 @@ ghost use Rattle.resource.specs.Payers.{weights_of, heavy, pool_refusal};
 ghost use Rattle.resource.specs.Pools.{payers_of, capacity_of, standing_of, payer_refusal, dollars_in, fresh, as_made, PoolLaw};
 ghost use Rattle.share.specs.Refusals.{numbered, unless};
 ghost use Rattle.share.specs.Rule.{share_of, lowered};
-ghost use Rattle.resource.specs.Totals.{pool-total};
+ghost use Rattle.resource.specs.Totals.{pool-total, pool-covered};
 ghost use Rattle.std.proofs.Common.{rules};
 
 use super::Pool;
@@ -103,7 +103,7 @@ impl Resource for Pool {
 
     ghost standing = { standing_of };
 
-    ghost covered = { Prim.search rules };
+    ghost covered = { pool-covered };
 
     ghost bounded = { pool-total };
 

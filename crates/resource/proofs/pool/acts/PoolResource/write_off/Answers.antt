@@ -4,6 +4,7 @@ use Rattle.share.specs.Rule.{total}
 use Rattle.share.proofs.Shares.{within-weight, lowers}
 use Rattle.resource.specs.Payers.{Light}
 use Rattle.resource.specs.Pools.{payers_of, standing_of}
+use Rattle.resource.specs.Totals.{pool-covered}
 use Rattle.resource.proofs.Weights.{length-payers, length-read, weight-read, lowered-more, lowered-all, lowered-light}
 use Rattle.resource.proofs.pool.acts.PoolResource.write_off.Goals as goal
 
@@ -12,7 +13,7 @@ overflow_sub-rest c =
     let p = c.args.self.now in
     let long = length-read _ _ c.payers-weight-items.ensures in
     let read = weight-read _ _ c.loop-place.place c.payers-weight-items.ensures c.loop-place-test.true in
-    omega (arith, within-weight (standing_of p) (payers_of p) c.loop-place.place (omega arith) p.covered)
+    omega (arith, within-weight (standing_of p) (payers_of p) c.loop-place.place (omega arith) (pool-covered p))
 
 pub loop-place-preserved : goal.loop-place-preserved
 loop-place-preserved c =
@@ -34,7 +35,7 @@ invariant_of-self c =
       few = p.few;
       whole = c.loop-place.invariant.room;
       light = subst Light (sym each) (lowered-light (standing_of p) (payers_of p) p.light);
-      summed = omega (arith, p.summed, ap total each, lowers (standing_of p) (payers_of p) p.covered);
+      summed = omega (arith, p.summed, ap total each, lowers (standing_of p) (payers_of p) (pool-covered p));
       covered = omega arith;
     }
 
