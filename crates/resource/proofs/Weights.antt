@@ -1,15 +1,16 @@
 -- The weights of a pool: what its limits give, and arrays of weights filled from the front. Assumes nothing.
-use Rattle.std.specs.Prelude.{◌≡◌, ℕ, ◌+◌, ◌-◌, ◌<◌, ◌≤◌, false, List, [], ◌∷◌, ◌++◌, map, length, get_or, take, nat_lt, slice_index, slice_set}
-use Rattle.std.proofs.Common.{sym, ap, subst, ◌∙◌, zero-add, arith}
+use Rattle.std.specs.Prelude.{◌≡◌, ℕ, ◌+◌, ◌-◌, ◌<◌, ◌≤◌, false, List, [], ◌∷◌, ◌++◌, map, length, get_or, take, drop, nat_lt, slice_index, slice_set}
+use Rattle.std.proofs.Common.{sym, ap, ◌∙◌, zero-add, arith}
 use Rattle.std.specs.List.{range_with_len}
 use Rattle.std.proofs.lemmas.List.FromFn.{length-map-range_with_len, get_or-map-range_with_len, map-range_with_len_more}
-use Rattle.std.proofs.lemmas.List.{length-map, length-take, take-map, take_more_set, map-set, get_or-map}
+use Rattle.std.proofs.lemmas.List.{length-map, length-take, take_all, take_more_set, map-set, get_or-map, get_or-drop, drop-drop, drop-set-lt}
+use Rattle.std.proofs.Math.Seq.{take-append_seam}
 use Rattle.std.proofs.lemmas.List.Folds.{list_any_none, list_any_at}
 use Rattle.std.proofs.lemmas.List.Elements.{All-from_get_or}
 use Rattle.std.proofs.lemmas.Bool.Decides.{nat_tests}
 use Rattle.std.proofs.lemmas.Bool.{le-ltb}
 use Rattle.share.specs.Rule.{left_of, lowered}
-use Rattle.resource.specs.Payers.{Light, heavy, most_weight, pool_refusal, worth, weights_of}
+use Rattle.resource.specs.Payers.{Light, heavy, most_weight, pool_refusal, worth, weights_of, first_weights}
 use Rattle.share.proofs.Shares.{adds_up_within, within-weight, near, nothing, lowers}
 use Rattle.resource.specs.Pools.{payers_of, standing_of, payer_refusal, PoolLaw}
 use Rattle.resource.specs.Totals.{pool-covered}
@@ -41,8 +42,11 @@ pub light-heavy : (ws : List ℕ) → Light ws → heavy ws ≡ false
 light-heavy ws light = list_any_none (nat_lt most_weight) ws (All-from_get_or (λ w. nat_lt most_weight w ≡ false) ws 0 (λ k in'. le-ltb most_weight (slice_index ws k) (light k in')))
 
 -- a pool has as many weights as payers
+pub length-taken : (p : Pool) → length (take p.count p.weights) ≡ p.count
+length-taken p = simp length-take (omega (arith, p.few, p.whole))
+
 pub length-payers : (p : Pool) → length (payers_of p) ≡ p.count
-length-payers p = simp (length-map, length-take) (omega (arith, p.few, p.whole))
+length-payers p = length-map (take p.count p.weights) worth ∙ length-taken p
 
 -- which pools are taken
 pub light-taken : (ws : List ℕ) → 0 < length ws → length ws ≤ 32 → heavy ws ≡ false → pool_refusal ws ≡ 0
@@ -62,18 +66,26 @@ pool-law p = record {
   written_off = lowers (standing_of p) (payers_of p) (pool-covered p);
 }
 
--- weights that are read from amounts
-pub length-read : (ps : List Dollars) (ws : List ℕ) → weights_of ps ≡ ws → length ps ≡ length ws
-length-read ps ws same = sym (length-map ps worth) ∙ ap length same
+-- weights from a place on that are as they were: the one at the place, and those behind it once it is written
+pub weight-ahead : (ds : List Dollars) (ws : List ℕ) (i : ℕ) → i < length ds → drop i (weights_of ds) ≡ drop i ws → (get_or ds i (record { 0 = 0 })).0 ≡ slice_index ws i
+weight-ahead ds ws i inside same =
+    let first : slice_index (weights_of ds) i ≡ slice_index ws i = grind (arith, get_or-drop i (weights_of ds) 0 0, get_or-drop i ws 0 0) in
+    sym (get_or-map worth ds i (record { 0 = 0 }) 0 inside) ∙ first
 
-pub weight-read : (ps : List Dollars) (ws : List ℕ) (i : ℕ) → weights_of ps ≡ ws → i < length ps → (get_or ps i (record { 0 = 0 })).0 ≡ slice_index ws i
-weight-read ps ws i same inside = sym (get_or-map worth ps i (record { 0 = 0 }) 0 inside) ∙ ap (λ xs. slice_index xs i) same
+pub weights-behind : (ds : List Dollars) (ws : List ℕ) (i : ℕ) (d : Dollars) → drop i (weights_of ds) ≡ drop i ws → drop (i + 1) (weights_of (slice_set ds i d)) ≡ drop (i + 1) ws
+weights-behind ds ws i d same =
+    ap (drop (i + 1)) (map-set worth ds i d)
+    ∙ drop-set-lt (i + 1) (weights_of ds) i d.0 (omega arith)
+    ∙ sym (drop-drop 1 i (weights_of ds))
+    ∙ ap (drop 1) same
+    ∙ drop-drop 1 i ws
 
 -- the weights that are left by a write-off, once each is lowered
-pub lowered-all : (p : Pool) (rest : List Dollars) (i : ℕ) → i ≡ length (payers_of p) →
-    take i (weights_of rest) ≡ map (left_of (standing_of p) (payers_of p)) (range_with_len 0 i) →
-    weights_of (take p.count rest) ≡ lowered (standing_of p) (payers_of p)
-lowered-all p rest i end done =
-    sym (take-map worth p.count rest)
-    ∙ subst (λ n. take n (weights_of rest) ≡ map (left_of (standing_of p) (payers_of p)) (range_with_len 0 n)) (end ∙ length-payers p) done
-    ∙ ap (λ n. map (left_of (standing_of p) (payers_of p)) (range_with_len 0 n)) (sym (length-payers p))
+pub lowered-all : (p : Pool) (ds rest : List Dollars) (i : ℕ) → length ds ≡ p.count → i ≡ p.count →
+    take i (weights_of ds) ≡ map (left_of (standing_of p) (payers_of p)) (range_with_len 0 i) → first_weights p.count (ds ++ rest) ≡ lowered (standing_of p) (payers_of p)
+lowered-all p ds rest i long end done =
+    ap (λ n. first_weights n (ds ++ rest)) (sym long)
+    ∙ ap weights_of (take-append_seam ds rest)
+    ∙ sym (take_all i (weights_of ds) (omega (arith, length-map ds worth)))
+    ∙ done
+    ∙ ap (λ n. map (left_of (standing_of p) (payers_of p)) (range_with_len 0 n)) (end ∙ sym (length-payers p))

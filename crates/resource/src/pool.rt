@@ -8,6 +8,7 @@ use share::units::Dollars;
 pub mod acts;
 
 // The payers' weights in payer order, their sum, and how much stands for a loss. A payer bears its share of the standing over the weights.
+// An array and a count, so that no memory is asked for and a copy is an ordinary value: the library's `ArrayVec` is not Copy, and its clone can fail.
 #[derive(Clone, Copy)]
 pub struct Pool {
     weights: [Dollars; 32],

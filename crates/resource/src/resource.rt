@@ -20,6 +20,7 @@ pub trait Resource {
         ensures { result.0 ≡ standing self.now };
 
     // Stands for n from now on, unless that is above the capacity.
+    // Each resource makes this test itself: what is left without it could only be called within the capacity, and no method of a resource asks anything.
     fn stand_at(&mut self, n: Dollars) -> Result<(), Refusal>
         ensures answer { numbered result ≡ unless (stand_refusal (capacity self.old) n.0) tt }
         ensures after { standing self.new ≡ stood_at (capacity self.old) (standing self.old) n.0 }

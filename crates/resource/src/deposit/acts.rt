@@ -52,8 +52,7 @@ impl Resource for Deposit {
     }
 
     fn write_off(&mut self) {
-        let lost = self.standing.0;
+        self.paid.0 -= self.standing.0;
         self.standing = Dollars(0);
-        self.paid = Dollars(self.paid.0 - lost);
     }
 }

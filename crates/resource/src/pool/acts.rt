@@ -18,7 +18,7 @@ pub const MOST_PAYERS: usize = 32;
 
 pub const MOST_WEIGHT: u64 = 100_000_000;
 
-// Whether some weight is above the greatest.
+// Whether some weight is above the greatest. The chain goes over numbers, as `heavy` does: with dollars compared in `any`, it was not proved that the answer is `heavy`.
 fn some_heavy(payers: &[Dollars]) -> bool
     ensures { result ≡ heavy (weights_of payers.now) }
 {
@@ -115,6 +115,7 @@ impl Resource for Pool {
         self.standing
     }
 
+    // This and `write_off` repeat the trait's clauses, since a method that adds one (`each`) has its own in place of the trait's.
     fn stand_at(&mut self, n: Dollars) -> Result<(), Refusal>
         ensures answer { numbered result ≡ unless (stand_refusal (capacity_of self.old) n.0) tt }
         ensures after { standing_of self.new ≡ stood_at (capacity_of self.old) (standing_of self.old) n.0 }
@@ -133,12 +134,12 @@ impl Resource for Pool {
         ensures clears { standing_of self.new ≡ 0 }
         ensures each { payers_of self.new ≡ lowered (standing_of self.old) (payers_of self.old) }
     {
-        let mut rest = self.weights;
-        for (place, weight) in self.payers().iter().enumerate() {
-            rest[place] = Dollars(weight.0 - self.borne_at(place).0);
+        let mut weights = self.weights;
+        for (place, weight) in weights[..self.count].iter_mut().enumerate() {
+            weight.0 -= self.borne_at(place).0;
         }
-        self.capacity = Dollars(self.capacity.0 - self.standing.0);
-        self.weights = rest;
+        self.capacity.0 -= self.standing.0;
+        self.weights = weights;
         self.standing = Dollars(0);
     }
 }
