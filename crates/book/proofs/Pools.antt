@@ -8,7 +8,7 @@ use Rattle.resource.specs.Payers.{Light, pool_refusal}
 use Rattle.resource.specs.Pools.{Stake, as_made, capacity_of, standing_of, payer_refusal}
 use Rattle.resource.specs.declared.pool.Pool.{Pool}
 use Rattle.resource.proofs.Weights.{light-heavy, light-taken}
-use Rattle.resource.specs.Totals.{pool-total}
+use Rattle.resource.specs.Totals.{pool-total, pool-covered}
 use Rattle.auction.specs.Filling.{column_of, weights_by, WithinLimits}
 use Rattle.auction.specs.declared.filling.Filling.{Filling}
 use Rattle.auction.specs.declared.filling.Money.{Money}
@@ -45,7 +45,7 @@ light-nobody k h = light-zeros 32 k
 
 -- what a pool can stand for, and what it stands for, at most
 pub pool-bounds : (p : Pool) → (capacity_of p ≤ 3200000000) × (standing_of p ≤ 3200000000)
-pool-bounds p = (pool-total p, omega (arith, pool-total p, p.covered))
+pool-bounds p = (pool-total p, omega (arith, pool-total p, pool-covered p))
 
 -- a number that a pool refuses is past its last payer
 pub payer-past : (count m n x : ℕ) → 0 < m → Err n ≡ unless (payer_refusal count m) x → count ≤ m - 1
