@@ -55,11 +55,11 @@ fn make<R: Resource>(resource: &mut R, call: Call) -> u8 {
     match call {
         Call::Stand(n) => number_of(resource.stand_at(Dollars(n))),
         Call::Fill(n) => {
-            let _ = resource.fill(Dollars(n));
+            resource.fill(Dollars(n));
             0
         }
         Call::WriteOff => {
-            let _ = resource.settle();
+            resource.settle();
             0
         }
     }
@@ -140,10 +140,9 @@ fn print_refusals<W: Write>(out: &mut W) -> io::Result<()> {
         let number = number_of(Deposit::new(Dollars(paid)));
         writeln!(out, "deposit {paid} -> {number}")?;
     }
-    let ones = [Dollars(1); 33];
-    let none = number_of(Pool::new(&ones[0..0]));
+    let none = number_of(Pool::new(&[]));
     writeln!(out, "pool of 0 weight 1 -> {none}")?;
-    let many = number_of(Pool::new(&ones));
+    let many = number_of(Pool::new(&[Dollars(1); 33]));
     writeln!(out, "pool of 33 weight 1 -> {many}")?;
     for weight in [100_000_000, 100_000_001] {
         let number = number_of(Pool::new(&[Dollars(weight)]));
