@@ -1,4 +1,4 @@
--- The weights of a pool: what its limits give, and arrays of weights filled from the front. Assumes nothing.
+-- The weights of a pool: what its limits give, and how a write-off lowers them. Assumes nothing.
 use Rattle.std.specs.Prelude.{◌≡◌, ℕ, ◌+◌, ◌-◌, ◌<◌, ◌≤◌, false, List, [], ◌∷◌, ◌++◌, map, length, get_or, take, drop, nat_lt, slice_index, slice_set}
 use Rattle.std.proofs.Common.{sym, ap, ◌∙◌, zero-add, arith}
 use Rattle.std.specs.List.{range_with_len}

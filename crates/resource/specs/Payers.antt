@@ -1,5 +1,5 @@
 -- The payers of a pool, by their weights. Assumes nothing.
-use Rattle.std.specs.Prelude.{ℕ, ◌<◌, ◌≤◌, Bool, cond, ◌||◌, List, map, length, take, nat_lt, slice_index}
+use Rattle.std.specs.Prelude.{ℕ, ◌≤◌, Bool, cond, ◌||◌, List, map, length, take, nat_lt, slice_index, EachIndex}
 use Rattle.std.specs.List.{list_any}
 use Rattle.share.specs.declared.units.Dollars.{Dollars}
 
@@ -21,7 +21,7 @@ most_weight = 100000000
 
 -- no weight is above the greatest
 abbrev pub Light : List ℕ → Type 0
-Light ws = (k : ℕ) → k < length ws → slice_index ws k ≤ most_weight
+Light ws = EachIndex ws (λ k. slice_index ws k ≤ most_weight)
 
 -- whether some weight is above the greatest
 abbrev pub heavy : List ℕ → Bool

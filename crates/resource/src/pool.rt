@@ -3,6 +3,7 @@ ghost use Rattle.std.specs.Prelude.{◌≡◌, ◌<◌, ◌≤◌, length};
 ghost use Rattle.resource.specs.Payers.{first_weights, Light};
 ghost use Rattle.share.specs.Rule.{total};
 
+use self::acts::MOST_PAYERS;
 use share::units::Dollars;
 
 pub mod acts;
@@ -11,7 +12,7 @@ pub mod acts;
 // An array and a count, so that no memory is asked for and a copy is an ordinary value: the library's `ArrayVec` is not Copy, and its clone can fail.
 #[derive(Clone, Copy)]
 pub struct Pool {
-    weights: [Dollars; 32],
+    weights: [Dollars; MOST_PAYERS],
     count: usize,
     capacity: Dollars,
     standing: Dollars,

@@ -36,7 +36,7 @@ impl Pool {
         if payers.is_empty() || payers.len() > MOST_PAYERS || some_heavy(payers) {
             return Err(Refusal::OutsideLimits);
         }
-        let mut weights = [Dollars(0); 32];
+        let mut weights = [Dollars(0); MOST_PAYERS];
         weights[..payers.len()].copy_from_slice(payers);
         Ok(Pool {
             weights,
