@@ -5,17 +5,17 @@ ghost use Rattle.std.specs.Prelude.{◌≡◌};
 use share::units::Parts;
 
 // A price in dollars for the whole lot, negative where the clearing house pays. The greater is the more competitive.
-#[derive(Clone, Copy)]
+#[derive(Clone, Copy, PartialEq, Eq, PartialOrd, Ord, Debug)]
 pub struct Price(pub i32);
 
-#[derive(Clone, Copy)]
+#[derive(Clone, Copy, PartialEq, Eq, Debug)]
 pub enum Kind {
     Standard,
     AllOrNothing,
 }
 
 // A member's bid for parts of a lot.
-#[derive(Clone, Copy)]
+#[derive(Clone, Copy, PartialEq, Eq, Debug)]
 pub struct Bid {
     pub member: u16,
     pub kind: Kind,
@@ -24,14 +24,14 @@ pub struct Bid {
 }
 
 // Whose bids are meant.
-#[derive(Clone, Copy)]
+#[derive(Clone, Copy, PartialEq, Eq, Debug)]
 pub enum Whose {
     Everyone,
     One(u16),
 }
 
 // At which prices bids are meant.
-#[derive(Clone, Copy)]
+#[derive(Clone, Copy, PartialEq, Eq, Debug)]
 pub enum Level {
     AtOrBetter(Price),
     Above(Price),
@@ -44,9 +44,9 @@ impl Level {
         ensures { result ≡ meets self price }
     {
         match self {
-            Level::AtOrBetter(p) => p.0 <= price.0,
-            Level::Above(p) => p.0 < price.0,
-            Level::Exactly(p) => p.0 == price.0,
+            Level::AtOrBetter(p) => p <= price,
+            Level::Above(p) => p < price,
+            Level::Exactly(p) => p == price,
         }
     }
 }
@@ -85,9 +85,6 @@ impl Bid {
     pub(crate) fn is_standard(&self) -> bool
         ensures { result ≡ is_standard self.now }
     {
-        match self.kind {
-            Kind::Standard => true,
-            Kind::AllOrNothing => false,
-        }
+        self.kind == Kind::Standard
     }
 }

@@ -21,7 +21,7 @@ impl Bid {
     fn takes_all(&self, price: Price) -> bool
         ensures { result ≡ takes_all price self.now }
     {
-        !self.is_standard() && self.price.0 == price.0
+        !self.is_standard() && self.price == price
     }
 }
 

@@ -9,7 +9,7 @@ use super::entering::WHOLE;
 use crate::bid::{Bid, Level, Price, Whose};
 
 // How a lot is cleared: at which price, and which kind of bid sets it.
-#[derive(Clone, Copy)]
+#[derive(Clone, Copy, PartialEq, Eq, Debug)]
 pub enum Clearing {
     Failed,
     ByStandard(Price),
@@ -38,7 +38,7 @@ pub(crate) fn better(a: Option<Price>, b: Option<Price>) -> Option<Price>
     let Some(q) = b else {
         return a;
     };
-    if q.0 < p.0 { Some(p) } else { Some(q) }
+    if q < p { Some(p) } else { Some(q) }
 }
 
 // The price of a bid, if it passes.
@@ -103,7 +103,7 @@ impl Bids {
             (Some(s), None) => Clearing::ByStandard(s),
             (None, Some(a)) => Clearing::ByAllOrNothing(a),
             (Some(s), Some(a)) => {
-                if a.0 < s.0 {
+                if a < s {
                     Clearing::ByStandard(s)
                 } else {
                     Clearing::ByAllOrNothing(a)
