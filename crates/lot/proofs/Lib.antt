@@ -2,6 +2,7 @@ pub mod Allotting
 pub mod Averages
 pub mod Entries
 pub mod Filled
+pub mod Greatest
 pub mod Magnitudes
 pub mod Prices
 pub mod Products

@@ -7,7 +7,6 @@ ghost use Rattle.std.specs.Int.{int_div_euclid};
 ghost use Rattle.lot.specs.declared.bid.Whose.TheVariants.{One};
 
 use super::Bids;
-use super::price::better;
 use crate::bid::{Bid, Level, Price, Whose};
 use share::units::Parts;
 
@@ -69,7 +68,8 @@ impl Bids {
         ensures law { AverageLaw (One member) (averaged requirement.0) (entries_of self.now) (average (One member) (averaged requirement.0) (entries_of self.now)) }
     {
         let whose = Whose::One(member);
-        let parts = if requirement.0 == 0 { 1 } else { requirement.0 };
-        better(self.average(whose, parts), self.all_or_nothing_price(whose))
+        let parts = requirement.0.max(1);
+        self.average(whose, parts)
+            .max(self.all_or_nothing_price(whose))
     }
 }

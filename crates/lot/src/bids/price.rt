@@ -1,7 +1,7 @@
 // The price of a lot.
 ghost use Rattle.lot.specs.Lots.{entries_of};
 ghost use Rattle.lot.specs.Bids.{all_asked};
-ghost use Rattle.lot.specs.Price.{better, price_if, reaches, reached, all_or_nothing_price, clearing, price_of, lot_price, PriceLaw};
+ghost use Rattle.lot.specs.Price.{reaches, reached, all_or_nothing_price, clearing, price_of, lot_price, PriceLaw};
 ghost use Rattle.std.specs.Prelude.{◌≡◌};
 
 use super::Bids;
@@ -26,26 +26,6 @@ impl Clearing {
             Clearing::ByStandard(price) | Clearing::ByAllOrNothing(price) => Some(price),
         }
     }
-}
-
-// The greater of two prices, where both are there.
-pub(crate) fn better(a: Option<Price>, b: Option<Price>) -> Option<Price>
-    ensures { result ≡ better a b }
-{
-    let Some(p) = a else {
-        return b;
-    };
-    let Some(q) = b else {
-        return a;
-    };
-    if q < p { Some(p) } else { Some(q) }
-}
-
-// The price of a bid, if it passes.
-fn price_if(passes: bool, bid: &Bid) -> Option<Price>
-    ensures { result ≡ price_if passes bid.now }
-{
-    if passes { Some(bid.price) } else { None }
 }
 
 impl Bids {
@@ -73,22 +53,22 @@ impl Bids {
     pub(crate) fn reached(&self, whose: Whose, parts: u32) -> Option<Price>
         ensures { result ≡ reached whose parts (entries_of self.now) }
     {
-        let mut best = None;
-        for bid in self.entries() {
-            best = better(best, price_if(self.reaches(whose, parts, bid), bid));
-        }
-        best
+        self.entries()
+            .iter()
+            .filter(|bid| self.reaches(whose, parts, bid))
+            .map(|bid| bid.price)
+            .max()
     }
 
     // The greatest price of their All or Nothing bids.
     pub(crate) fn all_or_nothing_price(&self, whose: Whose) -> Option<Price>
         ensures { result ≡ all_or_nothing_price whose (entries_of self.now) }
     {
-        let mut best = None;
-        for bid in self.entries() {
-            best = better(best, price_if(whose.has_all_or_nothing(bid), bid));
-        }
-        best
+        self.entries()
+            .iter()
+            .filter(|bid| whose.has_all_or_nothing(bid))
+            .map(|bid| bid.price)
+            .max()
     }
 
     // How the lot is cleared.

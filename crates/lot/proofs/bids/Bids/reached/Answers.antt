@@ -1,16 +1,16 @@
-use Rattle.std.proofs.Common.{ap, ◌∙◌}
-use Rattle.lot.specs.Price.{reaches, reached}
-use Rattle.lot.proofs.Steps.{greatest-more, greatest-all}
+use Rattle.std.proofs.Common.{ap, ◌∙◌, rules, tests}
+use Rattle.std.proofs.lemmas.Iterator.{YieldsList-from_slice, YieldsList-from_map}
+use Rattle.std.proofs.lemmas.Iterator.Consumers.{reduce_from_yields_List, YieldsList-at, YieldsList-from_filter}
+use Rattle.lot.specs.Lots.{entries_of}
+use Rattle.lot.specs.Price.{greatest, reaches}
+use Rattle.lot.proofs.Greatest.{greatest-is}
 use Rattle.lot.proofs.bids.Bids.reached.Goals as goal
-
-pub loop-bid-preserved : goal.loop-bid-preserved
-loop-bid-preserved c =
-    let bs = c.entries-bid-items.result.now in
-    let more = greatest-more (reaches c.args.whose c.args.parts bs) bs c.loop-bid.best c.loop-bid.bid-index c.loop-bid-test.true c.loop-bid.invariant in
-    cc
 
 pub returns : goal.returns
 returns c =
-    let bs = c.entries-bid-items.result.now in
-    greatest-all (reaches c.args.whose c.args.parts bs) bs c.loop-bid.best c.loop-bid.bid-index c.loop-bid-test.false c.loop-bid.invariant
-    ∙ ap (reached c.args.whose c.args.parts) c.entries-bid-items.ensures
+    let bs = c.entries.result.now in
+    let chosen = reaches c.args.whose c.args.parts (entries_of c.args.self.now) in
+    reduce_from_yields_List _ c.map.result _ c.max.ensures.ran
+    (YieldsList-from_map _ (λ b. b.price) (YieldsList-at c.map.ensures.source (YieldsList-from_filter _ chosen (YieldsList-from_slice bs cc) c.filter.ensures.closure (λ x r q k. search (rules, tests)))) c.map.ensures.closure (λ x r q k. search (rules, tests)))
+    ∙ greatest-is chosen bs
+    ∙ ap (greatest chosen) c.entries.ensures
