@@ -33,11 +33,10 @@ impl Bids {
     pub(crate) fn asked(&self, whose: Whose, level: Level) -> u32
         ensures { result ≡ all_asked whose level (entries_of self.now) }
     {
-        let mut parts = 0;
-        for bid in self.entries() {
-            parts += whose.asked(level, bid);
-        }
-        parts
+        self.entries()
+            .iter()
+            .map(|bid| whose.asked(level, bid))
+            .sum()
     }
 
     // Whether a bid is a Standard bid of theirs at whose price these bids reach a number of parts.

@@ -1,20 +1,13 @@
-use Rattle.std.proofs.Common.{◌+◌, ◌∙◌, arith}
+use Rattle.std.proofs.Common.{rules, tests, arith}
+use Rattle.std.proofs.lemmas.Iterator.{YieldsList-from_slice, YieldsList-from_map}
+use Rattle.std.proofs.lemmas.Iterator.Consumers.{fits_by_from_yields_list}
 use Rattle.lot.specs.Bids.{asked}
-use Rattle.lot.proofs.Steps.{sum_more, asked-fits, asked-all}
+use Rattle.lot.proofs.Taken.{all_asked-small}
 use Rattle.lot.proofs.bids.Bids.asked.Goals as goal
 
-pub overflow_add-parts : goal.overflow_add-parts
-overflow_add-parts c =
-    let step = sum_more (asked c.args.whose c.args.level) c.entries-bid-items.result.now c.loop-bid.bid-index c.loop-bid-test.true in
-    let fits = asked-fits c.args.whose c.args.level c.args.self.now c.entries-bid-items.result.now c.entries-bid-items.ensures (c.loop-bid.bid-index + 1) in
-    omega arith
-
-pub loop-bid-preserved : goal.loop-bid-preserved
-loop-bid-preserved c =
-    let step = sum_more (asked c.args.whose c.args.level) c.entries-bid-items.result.now c.loop-bid.bid-index c.loop-bid-test.true in
-    omega arith
-
-pub returns : goal.returns
-returns c =
-    c.loop-bid.invariant
-    ∙ asked-all c.args.whose c.args.level c.args.self.now c.entries-bid-items.result.now c.entries-bid-items.ensures c.loop-bid.bid-index c.loop-bid-test.false
+pub sum-requires-clause-fits : goal.sum-requires-clause-fits
+sum-requires-clause-fits c =
+    let few = all_asked-small c.args.whose c.args.level c.args.self.now in
+    fits_by_from_yields_list _ _ c.map.result _
+    (YieldsList-from_map _ (asked c.args.whose c.args.level) (YieldsList-from_slice c.entries.result.now cc) c.map.ensures.closure (λ x r q k. search (rules, tests)))
+    (rw c.entries.ensures (omega arith))
