@@ -6,6 +6,7 @@ pub mod Greatest
 pub mod Magnitudes
 pub mod Prices
 pub mod Products
+pub mod Signed
 pub mod Splits
 pub mod Steps
 pub mod Taken

@@ -1,14 +1,13 @@
 -- Price × parts over the bids of a lot: how large it gets. Assumes nothing.
-use Rattle.std.proofs.Common.{◌≡◌, ℕ, ◌+◌, ◌-◌, ◌*◌, ◌<◌, ◌≤◌, List, [], ◌∷◌, length, get_or, take, pos, ◌+ℤ◌, ◌*ℤ◌, nat_abs, Some, ap, ◌∙◌, mul-le-mul_right, arith, w64, SFits}
+use Rattle.std.proofs.Common.{◌≡◌, ℕ, ◌-◌, ◌*◌, ◌<◌, ◌≤◌, List, [], ◌∷◌, take, pos, ◌*ℤ◌, nat_abs, Some, ap, mul-le-mul_right, arith, w64, SFits}
 use Rattle.std.proofs.ByRecursion.{All-take, all-has}
-use Rattle.std.proofs.lemmas.List.{take_all}
-use Rattle.std.proofs.lemmas.List.Sums.{fold_more, sum_by-cons}
+use Rattle.std.proofs.lemmas.List.Sums.{sum_by-cons}
 use Rattle.std.specs.List.{AllByRecursion}
 use Rattle.lot.proofs.Allotting.{above-few}
 use Rattle.lot.proofs.Magnitudes.{abs-add, abs-times, abs-floor, fits-64}
 use Rattle.lot.proofs.Prices.{greatest-found, reached_enough}
 use Rattle.lot.proofs.Products.{folded-cons}
-use Rattle.lot.proofs.Steps.{no_bid, asked-fits}
+use Rattle.lot.proofs.Steps.{asked-fits}
 use Rattle.lot.proofs.Taken.{Fit, entries_fit, all_asked-small}
 use Rattle.lot.specs.Allocation.{above, all_above}
 use Rattle.lot.specs.Average.{floor, worth_above, all_worth_above, worth_down_to}
@@ -39,18 +38,11 @@ module _ (w : Whose) (q : Price) where
         worth-small bs fit.1,
       )
 
-  -- a loop over the bids of a lot
-  module _ (lot : Bids) (bs : List Bid) (is : bs ≡ entries_of lot) where
-    pub worth-fits : (i : ℕ) → SFits w64 (all_worth_above w q (take i bs))
-    worth-fits i =
-        let fit : AllByRecursion Fit bs = rw is (entries_fit lot) in
-        fits-64 (all_worth_above w q (take i bs)) (omega (arith, worth-small (take i bs) (All-take Fit i bs fit), asked-fits w (Above q) lot bs is i))
-
-    pub worth-more : (i : ℕ) → i < length bs → all_worth_above w q (take (i + 1) bs) ≡ all_worth_above w q (take i bs) +ℤ worth_above w q (get_or bs i no_bid)
-    worth-more i h = fold_more (λ z b. z +ℤ worth_above w q b) (pos 0) bs i no_bid h
-
-    pub worth-all : (i : ℕ) → length bs ≤ i → all_worth_above w q (take i bs) ≡ all_worth_above w q (entries_of lot)
-    worth-all i h = ap (all_worth_above w q) (take_all i bs h ∙ is)
+  -- the sum over the first bids of a lot
+  pub worth-fits : (lot : Bids) (bs : List Bid) → bs ≡ entries_of lot → (i : ℕ) → SFits w64 (all_worth_above w q (take i bs))
+  worth-fits lot bs is i =
+      let fit : AllByRecursion Fit bs = rw is (entries_fit lot) in
+      fits-64 (all_worth_above w q (take i bs)) (omega (arith, worth-small (take i bs) (All-take Fit i bs fit), asked-fits w (Above q) lot bs is i))
 
 -- the best m parts of the bids of a lot
 module _ (w : Whose) (m : ℕ) (lot : Bids) (q : Price) (some : 0 < m) (e : reached w m (entries_of lot) ≡ Some q) where

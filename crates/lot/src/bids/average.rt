@@ -32,11 +32,10 @@ impl Bids {
     fn worth_above(&self, whose: Whose, price: Price) -> i64
         ensures { result ≡ all_worth_above whose price (entries_of self.now) }
     {
-        let mut worth = 0;
-        for bid in self.entries() {
-            worth += whose.worth_above(price, bid);
-        }
-        worth
+        self.entries()
+            .iter()
+            .map(|bid| whose.worth_above(price, bid))
+            .sum()
     }
 
     // Price × parts over their best `parts` parts, where `last` is the price at which their Standard bids reach as many.
