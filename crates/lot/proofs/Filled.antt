@@ -1,9 +1,12 @@
 -- Arrays of parts that are filled from the front. Assumes nothing.
-use Rattle.std.proofs.Common.{◌≡◌, ℕ, zero, suc, ◌+◌, ◌-◌, ◌<◌, ◌≤◌, true, false, List, [], ◌∷◌, ◌++◌, map, length, get_or, take, set, replicate, sym, refl, ap, ◌∙◌, ap₂, arith}
+use Rattle.std.proofs.Common.{◌≡◌, ℕ, zero, suc, ◌+◌, ◌-◌, ◌<◌, ◌≤◌, Bool, true, false, Some, None, List, [], ◌∷◌, ◌++◌, map, length, get_or, take, set, replicate, sym, refl, ap, ◌∙◌, ap₂, arith}
 use Rattle.std.proofs.lemmas.List.FromFn.{get_or-map-range_with_len, length-map-range_with_len}
 use Rattle.std.proofs.ByRecursion.{All-get_or}
-use Rattle.std.proofs.lemmas.List.{length-map, length-take, get_or-map, get_or-take, take_more, take_more_set, map_push, map_more}
+use Rattle.std.proofs.lemmas.List.{length-map, length-take, get_or-map, take_more, take_more_set, map_push, map_more}
 use Rattle.std.proofs.lemmas.List.Sums.{sum-map}
+use Rattle.std.proofs.lemmas.List.Quantifiers.{position-Some}
+use Rattle.std.proofs.lemmas.Bool.Decides.{nat_tests}
+use Rattle.std.specs.List.{position, position_or_len}
 use Rattle.share.specs.Rule.{total, share_of, shares_of}
 use Rattle.share.specs.declared.units.Parts.{Parts}
 use Rattle.lot.proofs.Allotting.{get_or-plus, length-plus}
@@ -25,7 +28,13 @@ use Rattle.lot.specs.declared.bids.rung.Rung.{Rung}
 abbrev pub no_parts : Parts
 no_parts = record { 0 = 0 }
 
+pub length-entries : (lot : Bids) → length (entries_of lot) ≡ lot.count
+length-entries lot = simp length-take (omega (arith, lot.few, lot.long))
+
 -- ---- all to one bid
+
+absent : (f : Bid → Bool) (bs : List Bid) → position f bs ≡ None → length bs ≤ position_or_len f bs
+absent f bs e = grind (arith, nat_tests)
 
 nothing_is : (bs : List Bid) (m : ℕ) → length bs ≤ m → numbers (take (length bs) (replicate m no_parts)) ≡ nothing bs
 nothing_is [] m h = refl
@@ -34,16 +43,20 @@ nothing_is (b ∷ bs) (suc m) h = ap (λ ks. 0 ∷ ks) (nothing_is bs m (omega a
 
 module _ (p : Price) where
   -- no bid takes all
-  pub none-takes : (bs : List Bid) (m : ℕ) → length bs ≤ m → ((k : ℕ) → k < length bs → takes_all p (get_or bs k no_bid) ≡ false) →
-      numbers (take (length bs) (replicate m no_parts)) ≡ first_takes p bs
+  none-takes : (bs : List Bid) (m : ℕ) → length bs ≤ m → length bs ≤ position_or_len (takes_all p) bs → numbers (take (length bs) (replicate m no_parts)) ≡ first_takes p bs
   none-takes [] m h none = refl
   none-takes (b ∷ bs) zero h none = absurd (omega arith)
-  none-takes (b ∷ bs) (suc m) h none =
-      let first : takes_all p b ≡ false = none 0 (omega arith) in
-      rw first (ap (λ ks. 0 ∷ ks) (none-takes bs m (omega arith) (λ k h. none (suc k) (omega arith))))
+  none-takes (b ∷ bs) (suc m) h none = by (takes_all p b) refl (none-takes bs m (omega arith))
+    where
+      by : (v : Bool) → takes_all p b ≡ v → (length bs ≤ position_or_len (takes_all p) bs → numbers (take (length bs) (replicate m no_parts)) ≡ first_takes p bs) →
+          numbers (take (suc (length bs)) (replicate (suc m) no_parts)) ≡ first_takes p (b ∷ bs)
+      by true e rest = let out : position_or_len (takes_all p) (b ∷ bs) ≡ 0 = rw e in absurd (omega arith)
+      by false e rest =
+          let more : position_or_len (takes_all p) (b ∷ bs) ≡ 1 + position_or_len (takes_all p) bs = rw e in
+          rw e (ap (λ ks. 0 ∷ ks) (rest (omega arith)))
 
   -- the bid at i is the first that takes all
-  pub one-takes : (bs : List Bid) (m i : ℕ) → length bs ≤ m → i < length bs → ((k : ℕ) → k < i → takes_all p (get_or bs k no_bid) ≡ false) →
+  one-takes : (bs : List Bid) (m i : ℕ) → length bs ≤ m → i < length bs → ((k : ℕ) → k < i → takes_all p (get_or bs k no_bid) ≡ false) →
       takes_all p (get_or bs i no_bid) ≡ true → numbers (take (length bs) (set (replicate m no_parts) i (record { 0 = whole }))) ≡ first_takes p bs
   one-takes [] m i h inside none takes = absurd (omega arith)
   one-takes (b ∷ bs) zero i h inside none takes = absurd (omega arith)
@@ -51,6 +64,20 @@ module _ (p : Price) where
   one-takes (b ∷ bs) (suc m) (suc i) h inside none takes =
       let first : takes_all p b ≡ false = none 0 (omega arith) in
       rw first (ap (λ ks. 0 ∷ ks) (one-takes bs m i (omega arith) (omega arith) (λ k h. none (suc k) (omega arith)) takes))
+
+  -- what the bids of a lot get, by the place of the first that takes all
+  module _ (lot : Bids) where
+    pub taken-at : (i : ℕ) → position (takes_all p) (entries_of lot) ≡ Some i →
+        numbers (take lot.count (set (replicate 64 no_parts) i (record { 0 = whole }))) ≡ first_takes p (entries_of lot)
+    taken-at i e =
+        let it = position-Some (takes_all p) (entries_of lot) i no_bid e in
+        ap (λ n. numbers (take n (set (replicate 64 no_parts) i (record { 0 = whole })))) (sym (length-entries lot))
+        ∙ one-takes (entries_of lot) 64 i (entries-few lot) it.0 it.2 it.1
+
+    pub taken-by_none : position (takes_all p) (entries_of lot) ≡ None → numbers (take lot.count (replicate 64 no_parts)) ≡ first_takes p (entries_of lot)
+    taken-by_none e =
+        ap (λ n. numbers (take n (replicate 64 no_parts))) (sym (length-entries lot))
+        ∙ none-takes (entries_of lot) 64 (entries-few lot) (absent (takes_all p) (entries_of lot) e)
 
 -- ---- by shares
 
@@ -118,29 +145,13 @@ pub rungs-more : (p : Price) (bs : List Bid) (rungs : List Rung) (i : ℕ) (r : 
 rungs-more p bs rungs i r inside h so_far is =
     take_more_set rungs i r inside ∙ ap₂ (λ xs x. xs ++ x ∷ []) so_far is ∙ sym (map_more (rung p) bs i no_bid h)
 
-pub length-entries : (lot : Bids) → length (entries_of lot) ≡ lot.count
-length-entries lot = simp length-take (omega (arith, lot.few, lot.long))
+-- the rungs of a lot
+module _ (p : Price) (lot : Bids) (rs : List Rung) (is : rs ≡ map (rung p) (entries_of lot)) where
+  pub length-rungs : length rs ≡ lot.count
+  length-rungs = ap length is ∙ length-map (entries_of lot) (rung p) ∙ length-entries lot
 
--- a slice that has the bids of a lot
-module _ (lot : Bids) (bs : List Bid) (i : ℕ) (is : bs ≡ entries_of lot) where
-  pub entries-long : length bs ≡ lot.count
-  entries-long = ap length is ∙ length-entries lot
-
-  pub entries-within : i < length bs → i < 64
-  entries-within h = omega (arith, entries-long, lot.few)
-
-  pub entries-end : i ≤ length bs → length bs ≤ i → i ≡ lot.count
-  entries-end low high = omega (arith, entries-long)
-
--- an array that has the rungs of a lot
-module _ (p : Price) (lot : Bids) (rungs : List Rung) (is : take lot.count rungs ≡ map (rung p) (entries_of lot)) (i : ℕ) (h : i < lot.count) where
-  pub rungs-within : i < length (take lot.count rungs)
-  rungs-within = rw (is, length-map) (omega (arith, length-entries lot))
-
-  pub above-small : (get_or rungs i no_rung).above.0 ≤ 10000
-  above-small =
-      let read : get_or rungs i no_rung ≡ get_or (map (rung p) (entries_of lot)) i no_rung = sym (get_or-take lot.count rungs i no_rung h) ∙ ap (λ rs. get_or rs i no_rung) is in
-      rw read (rung-small p lot i (omega (arith, length-entries lot)))
+  pub rungs-small : (i : ℕ) → i < length rs → (get_or rs i no_rung).above.0 ≤ 10000
+  rungs-small i h = let inside : i < length (entries_of lot) = omega (arith, length-rungs, length-entries lot) in rw is (rung-small p lot i inside)
 
 -- nothing for the bids of a lot
 pub nothing-at : (lot : Bids) → numbers (take lot.count (replicate 64 no_parts)) ≡ nothing (entries_of lot)

@@ -1,5 +1,5 @@
 // What the bids of a lot get. The struct stands alone here: what it answers is in the module below it.
-ghost use Rattle.std.specs.Prelude.{◌≡◌, ◌≤◌, length};
+ghost use Rattle.std.specs.Prelude.{◌≤◌};
 
 use share::units::Parts;
 
@@ -11,5 +11,4 @@ pub struct Allocations {
     parts: [Parts; 64],
     count: usize,
     ghost few: { count ≤ 64 },
-    ghost long: { length parts ≡ 64 },
 }

@@ -5,7 +5,8 @@ ghost use Rattle.lot.specs.Bids.{whole};
 ghost use Rattle.lot.specs.Lots.{entries_of};
 ghost use Rattle.lot.specs.Rungs.{rung};
 ghost use Rattle.lot.specs.declared.bid.Whose.TheVariants.{Everyone};
-ghost use Rattle.std.specs.Prelude.{◌≡◌, map, length, take};
+ghost use Rattle.std.specs.List.{position};
+ghost use Rattle.std.specs.Prelude.{◌≡◌, map, take};
 
 use super::Bids;
 use super::entering::WHOLE;
@@ -26,34 +27,34 @@ impl Bid {
 }
 
 impl Bids {
+    // The place of the earliest entered All or Nothing bid at a price.
+    fn taker(&self, price: Price) -> Option<usize>
+        ensures { result ≡ position (takes_all price) (entries_of self.now) }
+    {
+        self.entries().iter().position(|bid| bid.takes_all(price))
+    }
+
     // All to the earliest entered All or Nothing bid at a price.
     fn first_takes(&self, price: Price) -> [Parts; 64]
-        ensures value { numbers (take self.now.count result) ≡ first_takes price (entries_of self.now) }
-        ensures len { length result ≡ 64 }
+        ensures { numbers (take self.now.count result) ≡ first_takes price (entries_of self.now) }
     {
-        let bids = self.entries();
         let mut parts = [Parts(0); 64];
-        for place in 0..bids.len() {
-            if bids[place].takes_all(price) {
-                parts[place] = Parts(WHOLE);
-                return parts;
-            }
+        if let Some(place) = self.taker(price) {
+            parts[place] = Parts(WHOLE);
         }
         parts
     }
 
     // What each Standard bid has above a price and at it.
     fn rungs(&self, price: Price) -> [Rung; 64]
-        ensures value { take self.now.count result ≡ map (rung price) (entries_of self.now) }
-        ensures len { length result ≡ 64 }
+        ensures { take self.now.count result ≡ map (rung price) (entries_of self.now) }
     {
-        let bids = self.entries();
         let none = Rung {
             above: Parts(0),
             tied: Parts(0),
         };
         let mut rungs = [none; 64];
-        for (i, bid) in bids.iter().enumerate() {
+        for (i, bid) in self.entries().iter().enumerate() {
             rungs[i] = Rung {
                 above: Parts(Whose::Everyone.asked(Level::Above(price), bid)),
                 tied: Parts(Whose::Everyone.asked(Level::Exactly(price), bid)),
@@ -64,15 +65,15 @@ impl Bids {
 
     // Their size to the Standard bids above a price, and shares of the rest to those at it.
     fn down_to(&self, price: Price) -> [Parts; 64]
-        ensures value { numbers (take self.now.count result) ≡ down_to Everyone whole price (entries_of self.now) }
-        ensures len { length result ≡ 64 }
+        ensures { numbers (take self.now.count result) ≡ down_to Everyone whole price (entries_of self.now) }
     {
         let rungs = self.rungs(price);
+        let rungs = &rungs[..self.count];
         let rest = WHOLE.saturating_sub(self.asked(Whose::Everyone, Level::Above(price)));
         let mut parts = [Parts(0); 64];
-        for i in 0..self.count {
-            let own = share(u64::from(rest), &rungs[0..self.count], i);
-            parts[i] = Parts(rungs[i].above.0 + own as u32);
+        for (i, rung) in rungs.iter().enumerate() {
+            let own = share(u64::from(rest), rungs, i);
+            parts[i] = Parts(rung.above.0 + own as u32);
         }
         parts
     }

@@ -16,8 +16,8 @@ returns c =
     let given : List Parts → List ℕ = λ ps. numbers (take lot.count ps) in
     let each : numbers (take lot.count c.match-clearing.parts) ≡ allocations bs = elim c.match-clearing.branch [
       | in-Failed w ↦ ap given w.parts-is ∙ nothing-at lot ∙ ap (λ k. allotted k bs) w.in-Failed.ensures.value
-      | in-ByStandard w ↦ ap given w.parts-is ∙ w.down_to-parts.ensures.value ∙ ap (λ k. allotted k bs) w.in-ByStandard.ensures.value
-      | in-ByAllOrNothing w ↦ ap given w.parts-is ∙ w.first_takes-parts.ensures.value ∙ ap (λ k. allotted k bs) w.in-ByAllOrNothing.ensures.value
+      | in-ByStandard w ↦ ap given w.parts-is ∙ w.down_to-parts.ensures ∙ ap (λ k. allotted k bs) w.in-ByStandard.ensures.value
+      | in-ByAllOrNothing w ↦ ap given w.parts-is ∙ w.first_takes-parts.ensures ∙ ap (λ k. allotted k bs) w.in-ByAllOrNothing.ensures.value
     ] in
     let value = c.first.ensures ∙ each in
     record { value = value; law = subst (AllocationLaw bs) (sym value) (allocation-law bs (entries-whole lot)) }

@@ -4,4 +4,4 @@ use Rattle.lot.proofs.Filled.{filled}
 use Rattle.lot.proofs.bids.Bids.down_to.Given as goal
 
 abbrev pub invariant-loop-i : goal.invariant-loop-i
-invariant-loop-i l = (length l.parts ≡ 64) × (numbers (take l.i l.parts) ≡ take l.i (filled l.rest (take l.self.count l.rungs)))
+invariant-loop-i l = (length l.parts ≡ 64) × (numbers (take l.i l.parts) ≡ take l.i (filled l.rest l.rungs))
