@@ -1,5 +1,5 @@
 -- The allocations of a lot: what they add up to, that no bid gets more than its size, and which bids are served. Assumes nothing.
-use Rattle.std.proofs.Common.{◌≡◌, ℕ, zero, suc, ◌+◌, ◌-◌, ◌*◌, ◌<◌, ◌≤◌, Bool, true, false, cond, ◌&&◌, List, [], ◌∷◌, map, length, get_or, ℤ, pos, ◌+ℤ◌, ◌≤ℤ◌, ◌<ℤ◌, is_some, Some, sym, refl, ap, ◌∙◌, ⊎_elim, arith}
+use Rattle.std.proofs.Common.{◌≡◌, ℕ, zero, suc, ◌+◌, ◌-◌, ◌*◌, ◌<◌, ◌≤◌, Bool, true, false, cond, ◌&&◌, List, [], ◌∷◌, map, length, get_or, ℤ, pos, ◌+ℤ◌, ◌≤ℤ◌, ◌<ℤ◌, is_some, Some, Option, sym, refl, ap, ◌∙◌, ⊎_elim, arith}
 use lib.Signed.{le_z, lt_z}
 use Rattle.std.specs.List.{AllByRecursion}
 use Rattle.std.proofs.lemmas.List.FromFn.{length-map-range_with_len, get_or-map-range_with_len}
@@ -18,9 +18,8 @@ use Rattle.lot.specs.declared.bid.Bid.{Bid}
 use Rattle.lot.specs.declared.bid.Price.{Price}
 use Rattle.lot.specs.declared.bid.Whose.{Whose}
 use Rattle.lot.specs.declared.bid.Whose.TheVariants.{Everyone}
-use Rattle.lot.specs.declared.bids.price.Clearing.{Clearing}
-use Rattle.lot.specs.declared.bids.price.Clearing.TheVariants.{Failed, ByStandard, ByAllOrNothing}
-use Rattle.lot.proofs.Prices.{cond-and-le, greatest-found, reached_enough, reached_greatest, by-standard, by-all-or-nothing, failed}
+use Rattle.lot.specs.declared.bids.price.Cleared.{Cleared}
+use Rattle.lot.proofs.Prices.{cond-and-le, greatest-found, reached_enough, reached_greatest, by-standard, by-all-or-nothing, failed, each-way}
 
 -- nothing
 total-nothing : (bs : List Bid) → total (nothing bs) ≡ 0
@@ -246,37 +245,41 @@ module _ (w : Whose) (m : ℕ) (q : Price) (bs : List Bid) where
 
 -- by how a lot is cleared
 module _ (bs : List Bid) where
-  allotted-each : (c : Clearing) → length (allotted c bs) ≡ length bs
-  allotted-each Failed = length-map bs (λ b. 0)
-  allotted-each (ByAllOrNothing p) = length-first_takes p bs
-  allotted-each (ByStandard p) = length-down_to Everyone whole p bs
+  allotted-each : (c : Option Cleared) → length (allotted c bs) ≡ length bs
+  allotted-each = each-way (λ c. length (allotted c bs) ≡ length bs)
+      (length-map bs (λ b. 0))
+      (λ p. length-down_to Everyone whole p bs)
+      (λ p. length-first_takes p bs)
 
-  allotted-sum : (c : Clearing) → clearing bs ≡ c → total (allotted c bs) ≡ cond (is_some (lot_price bs)) whole 0
-  allotted-sum Failed e = rw (failed bs e) (total-nothing bs)
-  allotted-sum (ByAllOrNothing p) e = let prices = by-all-or-nothing bs p e in rw prices.1 (total-first_takes p bs prices.0)
-  allotted-sum (ByStandard p) e = let prices = by-standard bs p e in rw prices.1 (down_to-sum Everyone whole p bs prices.0 (omega arith))
+  allotted-sum : (c : Option Cleared) → clearing bs ≡ c → total (allotted c bs) ≡ cond (is_some (lot_price bs)) whole 0
+  allotted-sum = each-way (λ c. clearing bs ≡ c → total (allotted c bs) ≡ cond (is_some (lot_price bs)) whole 0)
+      (λ e. rw (failed bs e) (total-nothing bs))
+      (λ p e. let prices = by-standard bs p e in rw prices.1 (down_to-sum Everyone whole p bs prices.0 (omega arith)))
+      (λ p e. let prices = by-all-or-nothing bs p e in rw prices.1 (total-first_takes p bs prices.0))
 
-  allotted-within : AllByRecursion (λ b. is_standard b ≡ false → b.size.0 ≡ whole) bs → (c : Clearing) → clearing bs ≡ c → (i : ℕ) → get_or (allotted c bs) i 0 ≤ get_or (map size_of bs) i 0
-  allotted-within sized Failed e i = omega (arith, get_or-nothing bs i)
-  allotted-within sized (ByAllOrNothing p) e i = first_takes-within p bs sized i
-  allotted-within sized (ByStandard p) e i = down_to-within-size Everyone whole p bs (by-standard bs p e).0 (omega arith) i
+  allotted-within : AllByRecursion (λ b. is_standard b ≡ false → b.size.0 ≡ whole) bs → (c : Option Cleared) → clearing bs ≡ c → (i : ℕ) → get_or (allotted c bs) i 0 ≤ get_or (map size_of bs) i 0
+  allotted-within sized = each-way (λ c. clearing bs ≡ c → (i : ℕ) → get_or (allotted c bs) i 0 ≤ get_or (map size_of bs) i 0)
+      (λ e i. omega (arith, get_or-nothing bs i))
+      (λ p e i. down_to-within-size Everyone whole p bs (by-standard bs p e).0 (omega arith) i)
+      (λ p e i. first_takes-within p bs sized i)
 
   below-is-out : (b : Bid) (p q : Price) → lot_price bs ≡ Some p → lot_price bs ≡ Some q → b.price.0 <ℤ p.0 → le_z q.0 b.price.0 ≡ false
   below-is-out b p q priced found low = let same : q ≡ p = cc in rw same (grind (arith, ints))
 
   module _ (i : ℕ) (b : Bid) (here : BidAt bs i b) where
-    allotted-below : (c : Clearing) → clearing bs ≡ c → (p : Price) → lot_price bs ≡ Some p → b.price.0 <ℤ p.0 → get_or (allotted c bs) i 0 ≡ 0
-    allotted-below Failed e p priced low = get_or-nothing bs i
-    allotted-below (ByAllOrNothing q) e p priced low =
-        first_takes-nothing q bs i b here (and_right _ _ (and_left _ _ (below-is-out b p q priced (by-all-or-nothing bs q e).1 low)))
-    allotted-below (ByStandard q) e p priced low =
+    allotted-below : (c : Option Cleared) → clearing bs ≡ c → (p : Price) → lot_price bs ≡ Some p → b.price.0 <ℤ p.0 → get_or (allotted c bs) i 0 ≡ 0
+    allotted-below = each-way (λ c. clearing bs ≡ c → (p : Price) → lot_price bs ≡ Some p → b.price.0 <ℤ p.0 → get_or (allotted c bs) i 0 ≡ 0)
+        (λ e p priced low. get_or-nothing bs i)
+        (λ q e p priced low.
         let prices = by-standard bs q e in
-        down_to-nothing Everyone whole q bs prices.0 (omega arith) i b here (and_right _ _ (below-is-out b p q priced prices.1 low))
+        down_to-nothing Everyone whole q bs prices.0 (omega arith) i b here (and_right _ _ (below-is-out b p q priced prices.1 low)))
+        (λ q e p priced low. first_takes-nothing q bs i b here (and_right _ _ (and_left _ _ (below-is-out b p q priced (by-all-or-nothing bs q e).1 low))))
 
-    allotted-other_kind : (c : Clearing) → clearing bs ≡ c → sets_price c b.kind ≡ false → get_or (allotted c bs) i 0 ≡ 0
-    allotted-other_kind Failed e other = get_or-nothing bs i
-    allotted-other_kind (ByAllOrNothing p) e other = first_takes-nothing p bs i b here (and_left _ _ other)
-    allotted-other_kind (ByStandard p) e other = down_to-nothing Everyone whole p bs (by-standard bs p e).0 (omega arith) i b here (and_left _ _ (and_left _ _ other))
+    allotted-other_kind : (c : Option Cleared) → clearing bs ≡ c → sets_price c b.kind ≡ false → get_or (allotted c bs) i 0 ≡ 0
+    allotted-other_kind = each-way (λ c. clearing bs ≡ c → sets_price c b.kind ≡ false → get_or (allotted c bs) i 0 ≡ 0)
+        (λ e other. get_or-nothing bs i)
+        (λ p e other. down_to-nothing Everyone whole p bs (by-standard bs p e).0 (omega arith) i b here (and_left _ _ (and_left _ _ other)))
+        (λ p e other. first_takes-nothing p bs i b here (and_left _ _ other))
 
 -- where each All or Nothing bid is for the whole lot
 pub allocation-law : (bs : List Bid) → AllByRecursion (λ b. is_standard b ≡ false → b.size.0 ≡ 10000) bs → AllocationLaw bs (allocations bs)

@@ -8,13 +8,14 @@ use Rattle.std.proofs.lemmas.Int.{by_lt_z, clamps, ints}
 use Rattle.std.proofs.lemmas.List.Sums.{sum_by-cons}
 use Rattle.std.proofs.lemmas.Bool.{and_from, and_parts, cases_Bool, cases_lt, le-leb, leb-true, lt-leb, not_from_false, not-true}
 use Rattle.lot.specs.Bids.{whole, standard_of, all_or_nothing_of, offered, all_offered}
-use Rattle.lot.specs.Price.{at_or_better, demand, better, greatest, reached, standard_price, all_or_nothing_price, lot_price, cleared, clearing, Sells, PriceLaw}
+use Rattle.lot.specs.Price.{at_or_better, demand, better, greatest, reached, standard_price, all_or_nothing_price, lot_price, by_standard, by_all_or_nothing, cleared, clearing, Sells, PriceLaw}
 use Rattle.lot.specs.declared.bid.Bid.{Bid}
+use Rattle.lot.specs.declared.bid.Kind.{Kind}
+use Rattle.lot.specs.declared.bid.Kind.TheVariants.{Standard, AllOrNothing}
 use Rattle.lot.specs.declared.bid.Price.{Price}
 use Rattle.lot.specs.declared.bid.Whose.{Whose}
 use Rattle.lot.specs.declared.bid.Whose.TheVariants.{Everyone}
-use Rattle.lot.specs.declared.bids.price.Clearing.{Clearing}
-use Rattle.lot.specs.declared.bids.price.Clearing.TheVariants.{Failed, ByStandard, ByAllOrNothing}
+use Rattle.lot.specs.declared.bids.price.Cleared.{Cleared}
 
 -- a price that is there and at least q
 abbrev Reaches : Price → Option Price → Type 0
@@ -257,10 +258,13 @@ module _ (bs : List Bid) where
   }
 
 -- what a way to clear says of the Standard price, the All or Nothing price and the greater of them
-abbrev Agrees : Option Price → Option Price → Clearing → Type 0
-Agrees s a Failed = better s a ≡ None
-Agrees s a (ByStandard p) = (s ≡ Some p) × (better s a ≡ Some p)
-Agrees s a (ByAllOrNothing p) = (a ≡ Some p) × (better s a ≡ Some p)
+abbrev Agrees_by : Option Price → Option Price → Kind → Price → Type 0
+Agrees_by s a Standard p = (s ≡ Some p) × (better s a ≡ Some p)
+Agrees_by s a AllOrNothing p = (a ≡ Some p) × (better s a ≡ Some p)
+
+abbrev Agrees : Option Price → Option Price → Option Cleared → Type 0
+Agrees s a None = better s a ≡ None
+Agrees s a (Some c) = Agrees_by s a c.by c.price
 
 cleared-agrees : (s a : Option Price) → Agrees s a (cleared s a)
 cleared-agrees None None = refl
@@ -268,19 +272,28 @@ cleared-agrees (Some x) None = (refl, refl)
 cleared-agrees None (Some y) = (refl, refl)
 cleared-agrees (Some x) (Some y) = by (lt_z y.0 x.0) refl
   where
-    by : (v : Bool) → lt_z y.0 x.0 ≡ v → Agrees (Some x) (Some y) (cond v (ByStandard x) (ByAllOrNothing y))
+    by : (v : Bool) → lt_z y.0 x.0 ≡ v → Agrees (Some x) (Some y) (cond v (by_standard x) (by_all_or_nothing y))
     by true e = (refl, rw e refl)
     by false e = (refl, rw e refl)
 
 module _ (bs : List Bid) where
-  clearing-agrees : (c : Clearing) → clearing bs ≡ c → Agrees (standard_price bs) (all_or_nothing_price Everyone bs) c
+  clearing-agrees : (c : Option Cleared) → clearing bs ≡ c → Agrees (standard_price bs) (all_or_nothing_price Everyone bs) c
   clearing-agrees c e = subst (Agrees (standard_price bs) (all_or_nothing_price Everyone bs)) e (cleared-agrees (standard_price bs) (all_or_nothing_price Everyone bs))
 
-  pub by-standard : (p : Price) → clearing bs ≡ ByStandard p → (standard_price bs ≡ Some p) × (lot_price bs ≡ Some p)
-  by-standard p = clearing-agrees (ByStandard p)
+  pub by-standard : (p : Price) → clearing bs ≡ by_standard p → (standard_price bs ≡ Some p) × (lot_price bs ≡ Some p)
+  by-standard p = clearing-agrees (by_standard p)
 
-  pub by-all-or-nothing : (p : Price) → clearing bs ≡ ByAllOrNothing p → (all_or_nothing_price Everyone bs ≡ Some p) × (lot_price bs ≡ Some p)
-  by-all-or-nothing p = clearing-agrees (ByAllOrNothing p)
+  pub by-all-or-nothing : (p : Price) → clearing bs ≡ by_all_or_nothing p → (all_or_nothing_price Everyone bs ≡ Some p) × (lot_price bs ≡ Some p)
+  by-all-or-nothing p = clearing-agrees (by_all_or_nothing p)
 
-  pub failed : clearing bs ≡ Failed → lot_price bs ≡ None
-  failed = clearing-agrees Failed
+  pub failed : clearing bs ≡ None → lot_price bs ≡ None
+  failed = clearing-agrees None
+
+-- each way to clear a lot
+pub each-way : (P : Option Cleared → Type 0) → P None → ((p : Price) → P (by_standard p)) → ((p : Price) → P (by_all_or_nothing p)) → (c : Option Cleared) → P c
+each-way P none standard all None = none
+each-way P none standard all (Some c) = by c.by refl
+  where
+    by : (k : Kind) → c.by ≡ k → P (Some c)
+    by Standard e = subst (λ k. P (Some (record { price = c.price; by = k }))) (sym e) (standard c.price)
+    by AllOrNothing e = subst (λ k. P (Some (record { price = c.price; by = k }))) (sym e) (all c.price)

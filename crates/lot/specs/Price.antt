@@ -3,12 +3,12 @@ use Rattle.std.specs.Prelude.{◌≡◌, ℕ, ◌≤◌, Bool, false, cond, ◌&
 use Rattle.std.specs.List.{ContainsAt as Has}
 use Rattle.lot.specs.Bids.{whole, is_standard, standard_of, all_or_nothing_of, asked, all_asked}
 use Rattle.lot.specs.declared.bid.Bid.{Bid}
+use Rattle.lot.specs.declared.bid.Kind.TheVariants.{Standard, AllOrNothing}
 use Rattle.lot.specs.declared.bid.Level.TheVariants.{AtOrBetter}
 use Rattle.lot.specs.declared.bid.Price.{Price}
 use Rattle.lot.specs.declared.bid.Whose.{Whose}
 use Rattle.lot.specs.declared.bid.Whose.TheVariants.{Everyone}
-use Rattle.lot.specs.declared.bids.price.Clearing.{Clearing}
-use Rattle.lot.specs.declared.bids.price.Clearing.TheVariants.{Failed, ByStandard, ByAllOrNothing}
+use Rattle.lot.specs.declared.bids.price.Cleared.{Cleared}
 
 -- a bid's parts at a price or better
 abbrev pub at_or_better : Whose → Price → Bid → ℕ
@@ -53,22 +53,28 @@ all_or_nothing_price w bs = greatest (all_or_nothing_of w) bs
 abbrev pub lot_price : List Bid → Option Price
 lot_price bs = better (standard_price bs) (all_or_nothing_price Everyone bs)
 
--- which kind sets the price: All or Nothing if its price is at least the Standard price or stands alone
-abbrev pub cleared : Option Price → Option Price → Clearing
-cleared None None = Failed
-cleared (Some s) None = ByStandard s
-cleared None (Some a) = ByAllOrNothing a
-cleared (Some s) (Some a) = cond (int_lt a.0 s.0) (ByStandard s) (ByAllOrNothing a)
+-- Standard bids set the price, or an All or Nothing bid does
+abbrev pub by_standard : Price → Option Cleared
+by_standard p = Some (record { price = p; by = Standard })
+
+abbrev pub by_all_or_nothing : Price → Option Cleared
+by_all_or_nothing p = Some (record { price = p; by = AllOrNothing })
+
+-- which kind sets the price: All or Nothing if its price is at least the Standard price or stands alone; the lot fails where there is neither
+abbrev pub cleared : Option Price → Option Price → Option Cleared
+cleared None None = None
+cleared (Some s) None = by_standard s
+cleared None (Some a) = by_all_or_nothing a
+cleared (Some s) (Some a) = cond (int_lt a.0 s.0) (by_standard s) (by_all_or_nothing a)
 
 -- how a lot is cleared
-abbrev pub clearing : List Bid → Clearing
+abbrev pub clearing : List Bid → Option Cleared
 clearing bs = cleared (standard_price bs) (all_or_nothing_price Everyone bs)
 
 -- the price at which a lot is cleared
-abbrev pub price_of : Clearing → Option Price
-price_of Failed = None
-price_of (ByStandard p) = Some p
-price_of (ByAllOrNothing p) = Some p
+abbrev pub price_of : Option Cleared → Option Price
+price_of None = None
+price_of (Some c) = Some c.price
 
 -- a price sells the lot: the Standard bids at it or better are for the whole lot or more, or an All or Nothing bid is at it or better
 abbrev pub Sells : List Bid → Price → Type 0

@@ -10,10 +10,9 @@ ghost use Rattle.std.specs.Prelude.{◌≡◌, map, take};
 
 use super::Bids;
 use super::entering::WHOLE;
-use super::price::Clearing;
 use super::rung::Rung;
 use crate::allocations::Allocations;
-use crate::bid::{Bid, Level, Price, Whose};
+use crate::bid::{Bid, Kind, Level, Price, Whose};
 use share::rule::share;
 use share::units::Parts;
 
@@ -84,9 +83,11 @@ impl Bids {
         ensures law { AllocationLaw (entries_of self.now) (parts_of result) }
     {
         let parts = match self.clearing() {
-            Clearing::Failed => [Parts(0); 64],
-            Clearing::ByStandard(price) => self.down_to(price),
-            Clearing::ByAllOrNothing(price) => self.first_takes(price),
+            None => [Parts(0); 64],
+            Some(cleared) => match cleared.by {
+                Kind::Standard => self.down_to(cleared.price),
+                Kind::AllOrNothing => self.first_takes(cleared.price),
+            },
         };
         Allocations::first(self.count, parts)
     }

@@ -6,26 +6,13 @@ ghost use Rattle.std.specs.Prelude.{◌≡◌};
 
 use super::Bids;
 use super::entering::WHOLE;
-use crate::bid::{Bid, Level, Price, Whose};
+use crate::bid::{Bid, Kind, Level, Price, Whose};
 
 // How a lot is cleared: at which price, and which kind of bid sets it.
 #[derive(Clone, Copy, PartialEq, Eq, Debug)]
-pub enum Clearing {
-    Failed,
-    ByStandard(Price),
-    ByAllOrNothing(Price),
-}
-
-impl Clearing {
-    // The price at which the lot is cleared; none where it fails.
-    pub fn price(self) -> Option<Price>
-        ensures { result ≡ price_of self }
-    {
-        match self {
-            Clearing::Failed => None,
-            Clearing::ByStandard(price) | Clearing::ByAllOrNothing(price) => Some(price),
-        }
-    }
+pub struct Cleared {
+    pub price: Price,
+    pub by: Kind,
 }
 
 impl Bids {
@@ -70,25 +57,20 @@ impl Bids {
             .max()
     }
 
-    // How the lot is cleared.
-    pub fn clearing(&self) -> Clearing
+    // How the lot is cleared; none where it fails. The kind is All or Nothing if its price is at least the Standard price or stands alone.
+    pub fn clearing(&self) -> Option<Cleared>
         ensures value { result ≡ clearing (entries_of self.now) }
         ensures price { price_of result ≡ lot_price (entries_of self.now) }
     {
         let standard = self.reached(Whose::Everyone, WHOLE);
         let all = self.all_or_nothing_price(Whose::Everyone);
-        match (standard, all) {
-            (None, None) => Clearing::Failed,
-            (Some(s), None) => Clearing::ByStandard(s),
-            (None, Some(a)) => Clearing::ByAllOrNothing(a),
-            (Some(s), Some(a)) => {
-                if a < s {
-                    Clearing::ByStandard(s)
-                } else {
-                    Clearing::ByAllOrNothing(a)
-                }
-            }
-        }
+        let by = if all < standard {
+            Kind::Standard
+        } else {
+            Kind::AllOrNothing
+        };
+        let price = standard.max(all)?;
+        Some(Cleared { price, by })
     }
 
     // The lot's price; the lot fails where there is none.
@@ -96,6 +78,6 @@ impl Bids {
         ensures value { result ≡ lot_price (entries_of self.now) }
         ensures law { PriceLaw (entries_of self.now) result }
     {
-        self.clearing().price()
+        self.clearing().map(|cleared| cleared.price)
     }
 }
