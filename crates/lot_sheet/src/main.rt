@@ -7,7 +7,6 @@ use command::Command;
 use lot::allocations::Allocations;
 use lot::bid::{Bid, Kind};
 use lot::bids::Bids;
-use lot::bids::price::Clearing;
 use std::io;
 use std::io::{BufRead, BufReader, BufWriter, Write};
 
@@ -76,27 +75,29 @@ impl Sheet {
             report(out, entry, bid, parts.0)?;
         }
         match bids.clearing() {
-            Clearing::Failed => writeln!(out, "price none")?,
-            Clearing::ByStandard(price) => {
-                let price = price.0;
-                writeln!(out, "price {price} by standard")?;
-            }
-            Clearing::ByAllOrNothing(price) => {
-                let price = price.0;
-                writeln!(out, "price {price} by all")?;
+            None => writeln!(out, "price none")?,
+            Some(cleared) => {
+                let price = cleared.price.0;
+                let kind = kind_name(cleared.by);
+                writeln!(out, "price {price} by {kind}")?;
             }
         }
         writeln!(out, "allocated {allocated}")
     }
 }
 
+// The word for a kind of bid.
+fn kind_name(kind: Kind) -> &'static str {
+    match kind {
+        Kind::Standard => "standard",
+        Kind::AllOrNothing => "all",
+    }
+}
+
 // Prints a bid and what it gets.
 fn report<W: Write>(out: &mut W, entry: u64, bid: &Bid, parts: u32) -> io::Result<()> {
     let member = bid.member;
-    let kind = match bid.kind {
-        Kind::Standard => "standard",
-        Kind::AllOrNothing => "all",
-    };
+    let kind = kind_name(bid.kind);
     let size = bid.size.0;
     let price = bid.price.0;
     writeln!(out, "bid {entry} {member} {kind} {size} {price} -> {parts}")
