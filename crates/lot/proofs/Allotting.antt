@@ -1,9 +1,9 @@
 -- The allocations of a lot: what they add up to, that no bid gets more than its size, and which bids are served. Assumes nothing.
 use Rattle.std.proofs.Common.{◌≡◌, ℕ, zero, suc, ◌+◌, ◌-◌, ◌*◌, ◌<◌, ◌≤◌, Bool, true, false, cond, ◌&&◌, List, [], ◌∷◌, map, length, get_or, ℤ, pos, ◌+ℤ◌, ◌≤ℤ◌, ◌<ℤ◌, is_some, Some, Option, sym, refl, ap, ◌∙◌, ⊎_elim, arith}
 use lib.Signed.{le_z, lt_z}
-use Rattle.std.specs.List.{AllByRecursion}
+use Rattle.std.specs.List.{All}
 use Rattle.std.proofs.lemmas.List.FromFn.{length-map-range_with_len, get_or-map-range_with_len}
-use Rattle.std.proofs.ByRecursion.{all-has, All-weaker}
+use Rattle.std.proofs.lemmas.List.Elements.{All-nil, All-cons, All-head, All-tail, All-weaker, All-contains}
 use Rattle.std.proofs.lemmas.List.{get_or-map, get_or_past, length-map}
 use Rattle.std.proofs.lemmas.Int.{ints}
 use Rattle.std.proofs.lemmas.List.Sums.{sum_by-cons, sum-map}
@@ -11,7 +11,7 @@ use Rattle.std.proofs.lemmas.Bool.{and_from, and_left, and_parts, and_right, bot
 use Rattle.share.specs.Laws.{Within}
 use Rattle.share.specs.Rule.{total, share_of, shares_of}
 use Rattle.share.proofs.Shares.{adds_up_within, near, within-weight}
-use Rattle.lot.specs.Bids.{whole, is_standard, standard_of, all_or_nothing_of, offered, same_price}
+use Rattle.lot.specs.Bids.{whole, standard_of, all_or_nothing_of, offered, same_price}
 use Rattle.lot.specs.Price.{at_or_better, demand, reached, all_or_nothing_price, lot_price, clearing}
 use Rattle.lot.specs.Allocation.{above, tied, all_above, all_tied, plus, down_to, nothing, takes_all, first_takes, allotted, allocations, size_of, BidAt, sets_price, NoneBefore, AllocationLaw}
 use Rattle.lot.specs.declared.bid.Bid.{Bid}
@@ -19,6 +19,7 @@ use Rattle.lot.specs.declared.bid.Price.{Price}
 use Rattle.lot.specs.declared.bid.Whose.{Whose}
 use Rattle.lot.specs.declared.bid.Whose.TheVariants.{Everyone}
 use Rattle.lot.specs.declared.bids.price.Cleared.{Cleared}
+use Rattle.lot.proofs.Taken.{Sized}
 use Rattle.lot.proofs.Prices.{cond-and-le, greatest-found, reached_enough, reached_greatest, by-standard, by-all-or-nothing, failed, each-way}
 
 -- nothing
@@ -45,29 +46,32 @@ module _ (p : Price) where
   total-taken : (bs : List Bid) → total (whole ∷ nothing bs) ≡ whole
   total-taken bs = omega (arith, sum_by-cons (λ n. n) whole (nothing bs), total-nothing bs)
 
-  all-total-first_takes : (bs : List Bid) → AllByRecursion (λ b. takes_all p b ≡ true → total (first_takes p bs) ≡ whole) bs
-  all-total-first_takes [] = tt
-  all-total-first_takes (b ∷ bs) = (
-    λ takes. rw takes (total-taken bs),
-    All-weaker _ _ (λ c later takes. first_takes-both b bs (λ ks. total ks ≡ whole)
-        (λ _. total-taken bs) (λ _. later takes)) bs (all-total-first_takes bs),
-  )
+  -- a bid that takes all, where such bids give away the whole lot
+  abbrev Gives : List Bid → Bid → Type 0
+  Gives bs b = takes_all p b ≡ true → total (first_takes p bs) ≡ whole
+
+  all-total-first_takes : (bs : List Bid) → All (Gives bs) bs
+  all-total-first_takes [] = All-nil (Gives [])
+  all-total-first_takes (b ∷ bs) = All-cons (Gives (b ∷ bs)) b bs
+      (λ takes. rw takes (total-taken bs))
+      (All-weaker (Gives bs) (Gives (b ∷ bs)) (λ c later takes. first_takes-both b bs (λ ks. total ks ≡ whole)
+      (λ _. total-taken bs) (λ _. later takes)) bs (all-total-first_takes bs))
 
   total-first_takes : (bs : List Bid) → all_or_nothing_price Everyone bs ≡ Some p → total (first_takes p bs) ≡ whole
   total-first_takes bs e =
       let it = greatest-found (all_or_nothing_of Everyone) bs p e in
       let same : same_price p it.bid.price ≡ true = rw it.priced (level p.0) in
-      all-has _ bs it.bid (all-total-first_takes bs) it.among (and_from _ _ (and_parts _ _ it.passes).0 same)
+      All-contains (Gives bs) bs it.bid (all-total-first_takes bs) it.among (and_from _ _ (and_parts _ _ it.passes).0 same)
     where
       level : (z : ℤ) → (le_z z z && le_z z z) ≡ true
       level z = grind (arith, ints)
 
-  first_takes-within : (bs : List Bid) → AllByRecursion (λ b. is_standard b ≡ false → b.size.0 ≡ whole) bs → (i : ℕ) → get_or (first_takes p bs) i 0 ≤ get_or (map size_of bs) i 0
+  first_takes-within : (bs : List Bid) → All Sized bs → (i : ℕ) → get_or (first_takes p bs) i 0 ≤ get_or (map size_of bs) i 0
   first_takes-within [] sized i = omega arith
   first_takes-within (b ∷ bs) sized zero = first_takes-both b bs (λ ks. get_or ks 0 0 ≤ size_of b)
-      (λ takes. omega (arith, sized.0 (not-true _ (and_parts _ _ takes).0))) (λ _. omega arith)
+      (λ takes. omega (arith, All-head Sized b bs sized (not-true _ (and_parts _ _ takes).0))) (λ _. omega arith)
   first_takes-within (b ∷ bs) sized (suc i) = first_takes-both b bs (λ ks. get_or ks (suc i) 0 ≤ get_or (map size_of bs) i 0)
-      (λ _. omega (arith, get_or-nothing bs i)) (λ _. first_takes-within bs sized.1 i)
+      (λ _. omega (arith, get_or-nothing bs i)) (λ _. first_takes-within bs (All-tail Sized b bs sized) i)
 
   none-before-more : (a : Bid) (bs : List Bid) (i : ℕ) → takes_all p a ≡ false → NoneBefore p bs i → NoneBefore p (a ∷ bs) (suc i)
   none-before-more a bs i passed none zero c early here = ap (takes_all p) here.1 ∙ passed
@@ -257,7 +261,7 @@ module _ (bs : List Bid) where
       (λ p e. let prices = by-standard bs p e in rw prices.1 (down_to-sum Everyone whole p bs prices.0 (omega arith)))
       (λ p e. let prices = by-all-or-nothing bs p e in rw prices.1 (total-first_takes p bs prices.0))
 
-  allotted-within : AllByRecursion (λ b. is_standard b ≡ false → b.size.0 ≡ whole) bs → (c : Option Cleared) → clearing bs ≡ c → (i : ℕ) → get_or (allotted c bs) i 0 ≤ get_or (map size_of bs) i 0
+  allotted-within : All Sized bs → (c : Option Cleared) → clearing bs ≡ c → (i : ℕ) → get_or (allotted c bs) i 0 ≤ get_or (map size_of bs) i 0
   allotted-within sized = each-way (λ c. clearing bs ≡ c → (i : ℕ) → get_or (allotted c bs) i 0 ≤ get_or (map size_of bs) i 0)
       (λ e i. omega (arith, get_or-nothing bs i))
       (λ p e i. down_to-within-size Everyone whole p bs (by-standard bs p e).0 (omega arith) i)
@@ -282,7 +286,7 @@ module _ (bs : List Bid) where
         (λ p e other. first_takes-nothing p bs i b here (and_left _ _ other))
 
 -- where each All or Nothing bid is for the whole lot
-pub allocation-law : (bs : List Bid) → AllByRecursion (λ b. is_standard b ≡ false → b.size.0 ≡ 10000) bs → AllocationLaw bs (allocations bs)
+pub allocation-law : (bs : List Bid) → All Sized bs → AllocationLaw bs (allocations bs)
 allocation-law bs sized = record {
   each = allotted-each bs (clearing bs);
   sum = allotted-sum bs (clearing bs) refl;

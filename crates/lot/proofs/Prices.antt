@@ -2,8 +2,8 @@
 use Rattle.std.proofs.Common.{◌≡◌, ℕ, ◌<◌, ◌≤◌, Bool, true, false, cond, ◌&&◌, leb, ◌⊎◌, List, [], ◌∷◌, ℤ, pos, ◌≤ℤ◌, is_some, Some, None, Option, sym, refl, ap, subst, inl, inr, ⊎_elim, arith}
 use lib.Signed.{le_z, lt_z, ≤ℤ_refl}
 use Rattle.std.specs.Int.{int_min}
-use Rattle.std.specs.List.{ContainsAt as Has, AllByRecursion}
-use Rattle.std.proofs.ByRecursion.{all-has, All-weaker, has_get_or, has_append_right}
+use Rattle.std.specs.List.{All, Contains}
+use Rattle.std.proofs.lemmas.List.Elements.{All-nil, All-cons, All-weaker, All-contains, Contains-get_or, Contains-append_right}
 use Rattle.std.proofs.lemmas.Int.{by_lt_z, clamps, ints}
 use Rattle.std.proofs.lemmas.List.Sums.{sum_by-cons}
 use Rattle.std.proofs.lemmas.Bool.{and_from, and_parts, cases_Bool, cases_lt, le-leb, leb-true, lt-leb, not_from_false, not-true}
@@ -44,15 +44,15 @@ better-reaches-right q (Some x) (Some y) h = grind (arith, ints)
 -- one of the bids passes a test, at a price
 pub record Found (f : Bid → Bool) (bs : List Bid) (p : Price) : Type 0 where
   pub bid : Bid
-  pub among : Has bs bid
+  pub among : Contains bs bid
   pub passes : f bid ≡ true
   pub priced : bid.price ≡ p
 
-has_first : (b : Bid) (bs : List Bid) → Has (b ∷ bs) b
-has_first b bs = has_get_or (b ∷ bs) 0 b (omega arith)
+has_first : (b : Bid) (bs : List Bid) → Contains (b ∷ bs) b
+has_first b bs = Contains-get_or (b ∷ bs) 0 b (omega arith)
 
-has-later : (b c : Bid) (bs : List Bid) → Has bs b → Has (c ∷ bs) b
-has-later b c bs h = has_append_right (c ∷ []) bs b h
+has-later : (b c : Bid) (bs : List Bid) → Contains bs b → Contains (c ∷ bs) b
+has-later b c bs h = Contains-append_right (c ∷ []) bs b h
 
 -- the greatest price is that of a bid that passes
 pub greatest-found : (f : Bid → Bool) (bs : List Bid) (p : Price) → greatest f bs ≡ Some p → Found f bs p
@@ -68,15 +68,18 @@ greatest-found f (b ∷ bs) p e = ⊎_elim (first (f b) refl) (λ more. on (grea
 
 -- the greatest price is at least that of each bid that passes
 module _ (f : Bid → Bool) (q : Price) where
-  all-reached : (bs : List Bid) → AllByRecursion (λ b. f b ≡ true → q.0 ≤ℤ b.price.0 → Reaches q (greatest f bs)) bs
-  all-reached [] = tt
-  all-reached (b ∷ bs) = (
-    λ e h. better-reaches-left q (cond (f b) (Some b.price) None) (greatest f bs) (rw e h),
-    All-weaker _ _ (λ c on e h. better-reaches-right q (cond (f b) (Some b.price) None) (greatest f bs) (on e h)) bs (all-reached bs),
-  )
+  -- a bid that passes, at q or better, is reached
+  abbrev Reached_by : Option Price → Bid → Type 0
+  Reached_by r b = f b ≡ true → q.0 ≤ℤ b.price.0 → Reaches q r
 
-  greatest-reaches : (b : Bid) (bs : List Bid) → Has bs b → f b ≡ true → q.0 ≤ℤ b.price.0 → Reaches q (greatest f bs)
-  greatest-reaches b bs h = all-has _ bs b (all-reached bs) h
+  all-reached : (bs : List Bid) → All (Reached_by (greatest f bs)) bs
+  all-reached [] = All-nil (Reached_by None)
+  all-reached (b ∷ bs) = All-cons (Reached_by (greatest f (b ∷ bs))) b bs
+      (λ e h. better-reaches-left q (cond (f b) (Some b.price) None) (greatest f bs) (rw e h))
+      (All-weaker (Reached_by (greatest f bs)) (Reached_by (greatest f (b ∷ bs))) (λ c on e h. better-reaches-right q (cond (f b) (Some b.price) None) (greatest f bs) (on e h)) bs (all-reached bs))
+
+  greatest-reaches : (b : Bid) (bs : List Bid) → Contains bs b → f b ≡ true → q.0 ≤ℤ b.price.0 → Reaches q (greatest f bs)
+  greatest-reaches b bs h = All-contains (Reached_by (greatest f bs)) bs b (all-reached bs) h
 
 -- a bid's parts at a better price: not more, and the same where both prices leave it out or both take it in
 falls : (v : Bool) (p q x : ℤ) (n : ℕ) → p ≤ℤ q → cond (v && le_z q x) n 0 ≤ cond (v && le_z p x) n 0
@@ -142,7 +145,7 @@ module _ (w : Whose) where
   -- the lowest of their Standard bids at a price or better: at its own price the demand is the same
   record Lowest (q : Price) (bs : List Bid) : Type 0 where
     bid : Bid
-    among : Has bs bid
+    among : Contains bs bid
     is_one : standard_of w bid ≡ true
     reaches : q.0 ≤ℤ bid.price.0
     same : demand w bid.price bs ≡ demand w q bs

@@ -3,9 +3,10 @@ use Rattle.std.proofs.Common.{◌≡◌, ℕ, ◌≤◌, Bool, true, false, cond
 use lib.Signed.{lt_z}
 use Rattle.std.proofs.lemmas.List.{append-nil, append_assoc, length-take}
 use Rattle.std.proofs.lemmas.Bool.{and_parts, and_from, or_parts, eqb-true, eq-eqb, ltb-false}
-use Rattle.std.proofs.ByRecursion.{All-weaker, sum_by_le}
+use Rattle.std.proofs.lemmas.List.Elements.{All-nil, All-cons, All-weaker}
+use Rattle.std.proofs.lemmas.List.Sums.{sum_by-le}
 use Rattle.std.proofs.lemmas.Bool.Decides.{nat_tests}
-use Rattle.std.specs.List.{AllByRecursion}
+use Rattle.std.specs.List.{All}
 use Rattle.lot.specs.Bids.{whole, is_standard, standard_of, meets, asked, all_asked}
 use Rattle.lot.specs.Entering.{highest, lowest, out_of_limits, refusal, taken_after}
 use Rattle.lot.specs.Lots.{entries_of}
@@ -14,10 +15,14 @@ use Rattle.lot.specs.declared.bid.Level.{Level}
 use Rattle.lot.specs.declared.bid.Whose.{Whose}
 use Rattle.lot.specs.declared.bids.Bids.{Bids}
 
+-- an All or Nothing bid is for the whole lot
+abbrev pub Sized : Bid → Type 0
+Sized b = is_standard b ≡ false → b.size.0 ≡ whole
+
 -- a bid that a lot may hold: within the whole lot, for all of it if it is All or Nothing, and at a price within the limits
 pub record Fit (b : Bid) : Type 0 where
-  pub small : b.size.0 ≤ 10000
-  pub full : is_standard b ≡ false → b.size.0 ≡ 10000
+  pub small : b.size.0 ≤ whole
+  pub full : Sized b
   pub near : nat_abs b.price.0 ≤ 2000000000
 
 near-from : (z : ℤ) → lt_z z lowest ≡ false → lt_z highest z ≡ false → nat_abs z ≤ 2000000000
@@ -32,11 +37,11 @@ fit-taken before b h =
     record { small = ltb-false whole b.size.0 sizes.0; full = grind (arith, nat_tests); near = near-from b.price.0 prices.0 prices.1 }
 
 -- each bid that was taken is fit
-pub all_fit : (before bs : List Bid) → taken_after before bs ≡ true → AllByRecursion Fit bs
-all_fit before [] h = tt
+pub all_fit : (before bs : List Bid) → taken_after before bs ≡ true → All Fit bs
+all_fit before [] h = All-nil Fit
 all_fit before (b ∷ bs) h =
     let both = and_parts (eqb (refusal before b) 0) (taken_after (before ++ b ∷ []) bs) h in
-    (fit-taken before b (eqb-true _ _ both.0), all_fit (before ++ b ∷ []) bs both.1)
+    All-cons Fit b bs (fit-taken before b (eqb-true _ _ both.0)) (all_fit (before ++ b ∷ []) bs both.1)
 
 -- one bid more
 pub taken-push : (before bs : List Bid) (b : Bid) → taken_after before bs ≡ true → refusal (before ++ bs) b ≡ 0 → taken_after before (bs ++ b ∷ []) ≡ true
@@ -47,7 +52,7 @@ taken-push before (x ∷ bs) b h e =
     and_from _ _ both.0 (taken-push (before ++ x ∷ []) bs b both.1 on)
 
 -- the bids of a lot are fit, and at most 64
-pub entries_fit : (lot : Bids) → AllByRecursion Fit (entries_of lot)
+pub entries_fit : (lot : Bids) → All Fit (entries_of lot)
 entries_fit lot = all_fit [] (entries_of lot) lot.taken
 
 pub entries-few : (lot : Bids) → length (entries_of lot) ≤ 64
@@ -66,9 +71,9 @@ all_asked-small w l lot =
     let bs = entries_of lot in
     omega (
       arith,
-      sum_by_le (asked w l) 10000 bs (All-weaker Fit (λ b. asked w l b ≤ 10000) (asked-small w l) bs (entries_fit lot)),
+      sum_by-le (asked w l) 10000 bs (All-weaker Fit (λ b. asked w l b ≤ 10000) (asked-small w l) bs (entries_fit lot)),
       mul-le-mul_right 10000 (entries-few lot),
     )
 
-pub entries-whole : (lot : Bids) → AllByRecursion (λ b. is_standard b ≡ false → b.size.0 ≡ 10000) (entries_of lot)
-entries-whole lot = All-weaker Fit (λ b. is_standard b ≡ false → b.size.0 ≡ 10000) (λ b fit. fit.full) (entries_of lot) (entries_fit lot)
+pub entries-whole : (lot : Bids) → All Sized (entries_of lot)
+entries-whole lot = All-weaker Fit Sized (λ b fit. fit.full) (entries_of lot) (entries_fit lot)

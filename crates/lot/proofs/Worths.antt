@@ -1,8 +1,8 @@
 -- Price × parts over the bids of a lot: how large it gets. Assumes nothing.
 use Rattle.std.proofs.Common.{◌≡◌, ℕ, ◌-◌, ◌*◌, ◌<◌, ◌≤◌, List, [], ◌∷◌, take, pos, ◌*ℤ◌, nat_abs, Some, ap, mul-le-mul_right, arith, w64, SFits}
-use Rattle.std.proofs.ByRecursion.{All-take, all-has}
+use Rattle.std.proofs.lemmas.List.Elements.{All-head, All-tail, All-take, All-contains}
 use Rattle.std.proofs.lemmas.List.Sums.{sum_by-cons}
-use Rattle.std.specs.List.{AllByRecursion}
+use Rattle.std.specs.List.{All}
 use Rattle.lot.proofs.Allotting.{above-few}
 use Rattle.lot.proofs.Magnitudes.{abs-add, abs-times, abs-floor, fits-64}
 use Rattle.lot.proofs.Prices.{greatest-found, reached_enough}
@@ -25,7 +25,7 @@ most = 2000000000
 
 module _ (w : Whose) (q : Price) where
   -- no part above a price is worth more than the greatest price
-  pub worth-small : (bs : List Bid) → AllByRecursion Fit bs → nat_abs (all_worth_above w q bs) ≤ most * all_above w q bs
+  pub worth-small : (bs : List Bid) → All Fit bs → nat_abs (all_worth_above w q bs) ≤ most * all_above w q bs
   worth-small [] fit = omega arith
   worth-small (b ∷ bs) fit =
       omega (
@@ -33,15 +33,15 @@ module _ (w : Whose) (q : Price) where
         ap nat_abs (folded-cons (worth_above w q) b bs),
         abs-add (worth_above w q b) (all_worth_above w q bs),
         abs-times b.price.0 (above w q b),
-        mul-le-mul_right (above w q b) fit.0.near,
+        mul-le-mul_right (above w q b) (All-head Fit b bs fit).near,
         sum_by-cons (above w q) b bs,
-        worth-small bs fit.1,
+        worth-small bs (All-tail Fit b bs fit),
       )
 
   -- the sum over the first bids of a lot
   pub worth-fits : (lot : Bids) (bs : List Bid) → bs ≡ entries_of lot → (i : ℕ) → SFits w64 (all_worth_above w q (take i bs))
   worth-fits lot bs is i =
-      let fit : AllByRecursion Fit bs = rw is (entries_fit lot) in
+      let fit : All Fit bs = rw is (entries_fit lot) in
       fits-64 (all_worth_above w q (take i bs)) (omega (arith, worth-small (take i bs) (All-take Fit i bs fit), asked-fits w (Above q) lot bs is i))
 
 -- the best m parts of the bids of a lot
@@ -50,7 +50,7 @@ module _ (w : Whose) (m : ℕ) (lot : Bids) (q : Price) (some : 0 < m) (e : reac
   last-small : nat_abs q.0 ≤ most
   last-small =
       let it = greatest-found (reaches w m (entries_of lot)) (entries_of lot) q e in
-      rw (ap (λ p. nat_abs p.0) it.priced) at (all-has Fit (entries_of lot) it.bid (entries_fit lot) it.among).near
+      rw (ap (λ p. nat_abs p.0) it.priced) at (All-contains Fit (entries_of lot) it.bid (entries_fit lot) it.among).near
 
   pub above_within : all_above w q (entries_of lot) ≤ m
   above_within = omega (arith, above-few w m q (entries_of lot) e some)

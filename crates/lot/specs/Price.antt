@@ -1,6 +1,5 @@
 -- The price that the bids of a lot make. Assumes nothing.
-use Rattle.std.specs.Prelude.{◌≡◌, ℕ, ◌≤◌, Bool, false, cond, ◌&&◌, ◌⊎◌, List, [], ◌∷◌, ◌≤ℤ◌, Some, None, Option, int_lt, nat_le}
-use Rattle.std.specs.List.{ContainsAt as Has}
+use Rattle.std.specs.Prelude.{◌≡◌, ℕ, ◌≤◌, Bool, false, cond, ◌&&◌, ◌⊎◌, List, [], ◌∷◌, ◌≤ℤ◌, Some, None, Option, Contains, int_lt, nat_le}
 use Rattle.lot.specs.Bids.{whole, is_standard, standard_of, all_or_nothing_of, asked, all_asked}
 use Rattle.lot.specs.declared.bid.Bid.{Bid}
 use Rattle.lot.specs.declared.bid.Kind.TheVariants.{Standard, AllOrNothing}
@@ -78,7 +77,7 @@ price_of (Some c) = Some c.price
 
 -- a price sells the lot: the Standard bids at it or better are for the whole lot or more, or an All or Nothing bid is at it or better
 abbrev pub Sells : List Bid → Price → Type 0
-Sells bs p = (whole ≤ demand Everyone p bs) ⊎ ((b : Bid) × Has bs b × (is_standard b ≡ false) × (p.0 ≤ℤ b.price.0))
+Sells bs p = (whole ≤ demand Everyone p bs) ⊎ ((b : Bid) × Contains bs b × (is_standard b ≡ false) × (p.0 ≤ℤ b.price.0))
 
 -- the lot's price is the greatest that sells it, and there is none exactly where none sells it
 pub record PriceLaw (bs : List Bid) (r : Option Price) : Type 0 where

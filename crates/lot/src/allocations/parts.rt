@@ -18,6 +18,6 @@ impl Allocations {
     pub fn parts(&self) -> &[Parts]
         ensures { numbers result.now ≡ parts_of self.now }
     {
-        &self.parts[0..self.count]
+        &self.parts[..self.count]
     }
 }

@@ -40,7 +40,7 @@ impl Bids {
     pub fn entries(&self) -> &[Bid]
         ensures { result.now ≡ entries_of self.now }
     {
-        &self.entries[0..self.count]
+        &self.entries[..self.count]
     }
 
     // Whether the lot would take a bid, and if not why.
