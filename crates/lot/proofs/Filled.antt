@@ -10,8 +10,7 @@ use Rattle.std.specs.List.{position, position_or_len}
 use Rattle.share.specs.Rule.{total, share_of, shares_of}
 use Rattle.share.specs.declared.units.Parts.{Parts}
 use Rattle.lot.proofs.Allotting.{get_or-plus, length-plus}
-use Rattle.lot.proofs.Steps.{no_bid}
-use Rattle.lot.proofs.Taken.{Fit, asked-small, entries_fit, entries-few, all_asked-small}
+use Rattle.lot.proofs.Taken.{Fit, no_bid, asked-small, entries_fit, entries-few, all_asked-small}
 use Rattle.lot.specs.Allocation.{above, tied, all_above, plus, down_to, nothing, takes_all, first_takes}
 use Rattle.lot.specs.Allotments.{numbers}
 use Rattle.lot.specs.Bids.{whole}

@@ -8,6 +8,5 @@ pub mod Prices
 pub mod Products
 pub mod Signed
 pub mod Splits
-pub mod Steps
 pub mod Taken
 pub mod Worths

@@ -1,16 +1,17 @@
 -- What holds of bids that a lot took one after another. Assumes nothing.
-use Rattle.std.proofs.Common.{◌≡◌, ℕ, ◌≤◌, Bool, true, false, cond, ◌&&◌, eqb, ltb, List, [], ◌∷◌, ◌++◌, length, ℤ, pos, negsuc, nat_abs, refl, mul-le-mul_right, arith}
+use Rattle.std.proofs.Common.{◌≡◌, ℕ, ◌≤◌, Bool, true, false, cond, ◌&&◌, eqb, ltb, List, [], ◌∷◌, ◌++◌, length, take, ℤ, pos, negsuc, nat_abs, refl, mul-le-mul_right, arith}
 use lib.Signed.{lt_z}
 use Rattle.std.proofs.lemmas.List.{append-nil, append_assoc, length-take}
 use Rattle.std.proofs.lemmas.Bool.{and_parts, and_from, or_parts, eqb-true, eq-eqb, ltb-false}
 use Rattle.std.proofs.lemmas.List.Elements.{All-nil, All-cons, All-weaker}
-use Rattle.std.proofs.lemmas.List.Sums.{sum_by-le}
+use Rattle.std.proofs.lemmas.List.Sums.{sum_by-le, sum_by-take-le}
 use Rattle.std.proofs.lemmas.Bool.Decides.{nat_tests}
 use Rattle.std.specs.List.{All}
 use Rattle.lot.specs.Bids.{whole, is_standard, standard_of, meets, asked, all_asked}
 use Rattle.lot.specs.Entering.{highest, lowest, out_of_limits, refusal, taken_after}
 use Rattle.lot.specs.Lots.{entries_of}
 use Rattle.lot.specs.declared.bid.Bid.{Bid}
+use Rattle.lot.specs.declared.bid.Kind.TheVariants.{Standard}
 use Rattle.lot.specs.declared.bid.Level.{Level}
 use Rattle.lot.specs.declared.bid.Whose.{Whose}
 use Rattle.lot.specs.declared.bids.Bids.{Bids}
@@ -58,6 +59,10 @@ entries_fit lot = all_fit [] (entries_of lot) lot.taken
 pub entries-few : (lot : Bids) → length (entries_of lot) ≤ 64
 entries-few lot = simp length-take (omega (arith, lot.few))
 
+-- what stands where there is no bid
+abbrev pub no_bid : Bid
+no_bid = record { member = 0; kind = Standard; size = record { 0 = 0 }; price = record { 0 = pos 0 } }
+
 at_most : (t : Bool) (n : ℕ) → cond t n 0 ≤ n
 at_most true n = omega arith
 at_most false n = omega arith
@@ -74,6 +79,12 @@ all_asked-small w l lot =
       sum_by-le (asked w l) 10000 bs (All-weaker Fit (λ b. asked w l b ≤ 10000) (asked-small w l) bs (entries_fit lot)),
       mul-le-mul_right 10000 (entries-few lot),
     )
+
+-- so do the first of them
+pub asked-fits : (w : Whose) (l : Level) (lot : Bids) (bs : List Bid) → bs ≡ entries_of lot → (i : ℕ) → all_asked w l (take i bs) ≤ 640000
+asked-fits w l lot bs is i =
+    let all : all_asked w l bs ≤ 640000 = rw is (all_asked-small w l lot) in
+    omega (arith, sum_by-take-le (asked w l) bs i)
 
 pub entries-whole : (lot : Bids) → All Sized (entries_of lot)
 entries-whole lot = All-weaker Fit Sized (λ b fit. fit.full) (entries_of lot) (entries_fit lot)

@@ -7,8 +7,7 @@ use Rattle.lot.proofs.Allotting.{above-few}
 use Rattle.lot.proofs.Magnitudes.{abs-add, abs-times, abs-floor, fits-64}
 use Rattle.lot.proofs.Prices.{greatest-found, reached_enough}
 use Rattle.lot.proofs.Products.{folded-cons}
-use Rattle.lot.proofs.Steps.{asked-fits}
-use Rattle.lot.proofs.Taken.{Fit, entries_fit, all_asked-small}
+use Rattle.lot.proofs.Taken.{Fit, asked-fits, entries_fit, all_asked-small}
 use Rattle.lot.specs.Allocation.{above, all_above}
 use Rattle.lot.specs.Average.{floor, worth_above, all_worth_above, worth_down_to}
 use Rattle.lot.specs.Lots.{entries_of}

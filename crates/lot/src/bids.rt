@@ -10,7 +10,8 @@ pub mod entering;
 pub mod price;
 mod rung;
 
-// The bids of a lot in entry order: each was taken by the lot as the ones before it left it. A copy of a lot's bids is an ordinary value.
+// The bids of a lot in entry order: each was taken by the lot as the ones before it left it.
+// An array with a count, and no ArrayVec: a copy of a lot's bids is an ordinary value, and an ArrayVec's can fail.
 #[derive(Clone, Copy)]
 pub struct Bids {
     entries: [Bid; 64],

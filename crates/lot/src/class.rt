@@ -11,7 +11,7 @@ pub enum Class {
 }
 
 // An amount taken apart by class.
-#[derive(Clone, Copy)]
+#[derive(Clone, Copy, PartialEq, Eq, Debug)]
 pub struct Tranches {
     pub senior: Dollars,
     pub subordinate: Dollars,

@@ -20,10 +20,8 @@ fn standard(lot: &mut Bids, size: u32, price: i32) -> Result<u16, Refusal> {
 
 // BP, or a price that nobody may bid where it is absent.
 fn bp(lot: &Bids, requirement: u32) -> i32 {
-    match lot.best_price(1, Parts(requirement)) {
-        Some(price) => price.0,
-        None => i32::MAX,
-    }
+    lot.best_price(1, Parts(requirement))
+        .map_or(i32::MAX, |price| price.0)
 }
 
 #[test]

@@ -53,6 +53,7 @@ impl Bids {
             tied: Parts(0),
         };
         let mut rungs = [none; 64];
+        // By place: of what is written through iter_mut a proof knows nothing afterwards.
         for (i, bid) in self.entries().iter().enumerate() {
             rungs[i] = Rung {
                 above: Parts(Whose::Everyone.asked(Level::Above(price), bid)),
@@ -70,6 +71,7 @@ impl Bids {
         let rungs = &rungs[..self.count];
         let rest = WHOLE.saturating_sub(self.asked(Whose::Everyone, Level::Above(price)));
         let mut parts = [Parts(0); 64];
+        // By place, as above; and a share is asked for by its place.
         for (i, rung) in rungs.iter().enumerate() {
             let own = share(u64::from(rest), rungs, i);
             parts[i] = Parts(rung.above.0 + own as u32);

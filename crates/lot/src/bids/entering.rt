@@ -47,10 +47,10 @@ impl Bids {
     pub fn admits(&self, bid: &Bid) -> Result<(), Refusal>
         ensures { numbered result ≡ unless (refusal (entries_of self.now) bid.now) tt }
     {
-        if bid.member < 1 || bid.member > MOST_MEMBERS {
+        if !(1..=MOST_MEMBERS).contains(&bid.member) {
             return Err(Refusal::OutOfRange);
         }
-        if bid.size.0 < 1 || bid.size.0 > WHOLE || bid.price.0 < LOWEST || bid.price.0 > HIGHEST {
+        if !(1..=WHOLE).contains(&bid.size.0) || !(LOWEST..=HIGHEST).contains(&bid.price.0) {
             return Err(Refusal::OutsideLimits);
         }
         if !bid.is_standard() && bid.size.0 != WHOLE {

@@ -18,7 +18,7 @@ impl Pri {
     pub fn new(dollars: u32) -> Result<Pri, Refusal>
         ensures { dollars_of (numbered result) ≡ unless (pri_refusal dollars) dollars }
     {
-        if dollars % 2 != 0 || dollars < 2 || dollars > MOST_PRI {
+        if dollars % 2 != 0 || !(2..=MOST_PRI).contains(&dollars) {
             return Err(Refusal::LotTerms);
         }
         Ok(Pri { dollars })
