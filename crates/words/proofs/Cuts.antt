@@ -1,12 +1,12 @@
 -- How a line is cut at the bytes that pass a test. Assumes nothing.
-use Rattle.std.proofs.Common.{◌≡◌, ℕ, zero, suc, ◌+◌, ◌<◌, ◌≤◌, Bool, true, false, cond, not, ◌&&◌, eqb, List, [], ◌∷◌, ◌++◌, length, get_or, take, drop, sym, refl, ap, ◌∙◌, zero-add, one-add, arith}
+use Rattle.std.proofs.Common.{◌≡◌, ℕ, zero, suc, ◌+◌, ◌<◌, ◌≤◌, Bool, true, false, cond, not, ◌&&◌, eqb, List, [], ◌∷◌, ◌++◌, length, take, drop, refl, ap, ◌∙◌, zero-add, one-add, arith}
 use Rattle.std.proofs.ByRecursion.{All-weaker}
-use Rattle.std.proofs.lemmas.List.{at_drop_more, nil_from_length, take-append-drop, take_at, drop_at}
+use Rattle.std.proofs.lemmas.List.{nil_from_length, take-append-drop, take_at, drop_at}
 use Rattle.std.proofs.lemmas.Bool.{eqb-true, ne_eqb, not-true, not-false, not_from_false}
 use Rattle.std.proofs.lemmas.Bool.Decides.{nat_tests}
 use Rattle.std.specs.List.{prefix_len, AllByRecursion}
 use Rattle.words.specs.Laws.{Blank, Solid, Ended, Word}
-use Rattle.words.specs.Words.{blank, solid, blanks_of, from_word, word_of, after_word, word_at, no_word, has_words, begun, word_count, spaced}
+use Rattle.words.specs.Words.{blank, solid, blanks_of, from_word, word_of, after_word, word_at, no_word, has_words, begun, word_count, first_words, words_of, spaced}
 
 -- bytes that are none or begin with one that fails a test
 abbrev pub Stops : (ℕ → Bool) → List ℕ → Type 0
@@ -102,13 +102,6 @@ counts (suc n) line =
 pub counted : (n : ℕ) (line word next : List ℕ) → word ≡ word_at n line → next ≡ word_at (suc n) line → has_words (suc n) line ≡ (not (eqb (length word) 0) && eqb (length next) 0)
 counted n line word next e f = rw (e, f) (counts n line)
 
--- one byte more, after which the count is as it has to be
-pub counts-on : (gap r : Bool) (bytes : List ℕ) (i count next n : ℕ) → i < length bytes → r ≡ blank (get_or bytes i 0) → next ≡ cond (gap && not r) 1 0 + count → (count ≤ i) × (count + begun gap (drop i bytes) ≡ n) → (next ≤ i + 1) × (next + begun r (drop (i + 1) bytes) ≡ n)
-counts-on gap r bytes i count next n h e f inv =
-    let step : begun gap (drop i bytes) ≡ cond (gap && not r) 1 0 + begun r (drop (i + 1) bytes) = at_drop_more (begun gap) bytes i 0 h ∙ rw (sym e) in
-    let one : (t : Bool) → cond t 1 0 ≤ 1 = λ t. elim t as (λ t. cond t 1 0 ≤ 1) [ true ↦ omega arith | false ↦ omega arith ] in
-    (omega (arith, one (gap && not r)), omega arith)
-
 -- blanks begin no word, nor do the bytes of one that has begun
 begun-blanks : (xs ys : List ℕ) → Blank xs → begun true (xs ++ ys) ≡ begun true ys
 begun-blanks [] ys h = refl
@@ -139,6 +132,30 @@ count_none line e =
     let word : word_of line ≡ [] = nil_from_length (word_of line) (eqb-true _ 0 e) in
     ap word_count (splits line)
     ∙ (begun-blanks (blanks_of line) (word_of line ++ after_word line) (front blank line).0 ∙ rw (word, none line word))
+
+-- no more words than bytes
+pub begun-le-length : (gap : Bool) (bytes : List ℕ) → begun gap bytes ≤ length bytes
+begun-le-length gap [] = omega arith
+begun-le-length gap (b ∷ bytes) =
+    let one : (t : Bool) → cond t 1 0 ≤ 1 = λ t. elim t as (λ t. cond t 1 0 ≤ 1) [ true ↦ omega arith | false ↦ omega arith ] in
+    omega (arith, one (gap && solid b), begun-le-length (blank b) bytes)
+
+-- the list of the words has as many as are counted
+length-first_words : (n : ℕ) (line : List ℕ) → length (first_words n line) ≡ n
+length-first_words zero line = refl
+length-first_words (suc n) line = omega (arith, length-first_words n (after_word line))
+
+pub length-words_of : (line : List ℕ) → length (words_of line) ≡ word_count line
+length-words_of line = length-first_words (word_count line) line
+
+-- it begins with the first word, if there is one
+pub words_of-some : (line : List ℕ) → no_word line ≡ false → words_of line ≡ word_of line ∷ words_of (after_word line)
+words_of-some line some = rw (count-first line some)
+
+pub words_of-none : (line : List ℕ) → no_word line ≡ true → (words_of line ≡ []) × (words_of (after_word line) ≡ [])
+words_of-none line e =
+    let word : word_of line ≡ [] = nil_from_length (word_of line) (eqb-true _ 0 e) in
+    (rw (count_none line e), rw (none line word))
 
 eqb-zero : (n : ℕ) → false ≡ eqb (suc n) 0
 eqb-zero n = grind (arith, nat_tests)

@@ -52,3 +52,12 @@ word_count line = begun true line
 -- words with a space (32) before each
 abbrev pub spaced : List (List ℕ) → List ℕ
 spaced words = flat_map (λ word. 32 ∷ word) words
+
+-- the first n words of a line
+abbrev pub first_words : ℕ → List ℕ → List (List ℕ)
+first_words zero line = []
+first_words (suc n) line = word_of line ∷ first_words n (after_word line)
+
+-- the words of a line
+abbrev pub words_of : List ℕ → List (List ℕ)
+words_of line = first_words (word_count line) line

@@ -1,8 +1,0 @@
-use Rattle.std.proofs.Common.{◌≡◌, ◌+◌, drop}
-use Rattle.std.specs.List.{prefix_len}
-use Rattle.words.specs.Words.{blank}
-use Rattle.words.proofs.blanks.Given as goal
-
--- what is left has the rest of them
-abbrev pub invariant-loop-i : goal.invariant-loop-i
-invariant-loop-i l = l.i + prefix_len blank (drop l.i l.line) ≡ prefix_len blank l.line
