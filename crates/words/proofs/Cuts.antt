@@ -1,10 +1,10 @@
 -- How a line is cut at the bytes that pass a test. Assumes nothing.
 use Rattle.std.proofs.Common.{◌≡◌, ℕ, zero, suc, ◌+◌, ◌<◌, ◌≤◌, Bool, true, false, cond, not, ◌&&◌, eqb, List, [], ◌∷◌, ◌++◌, length, take, drop, refl, ap, ◌∙◌, zero-add, one-add, arith}
-use Rattle.std.proofs.ByRecursion.{All-weaker}
+use Rattle.std.proofs.lemmas.List.Elements.{All-nil, All-cons, All-head, All-tail, All-weaker}
 use Rattle.std.proofs.lemmas.List.{nil_from_length, take-append-drop, take_at, drop_at}
 use Rattle.std.proofs.lemmas.Bool.{eqb-true, ne_eqb, not-true, not-false, not_from_false}
 use Rattle.std.proofs.lemmas.Bool.Decides.{nat_tests}
-use Rattle.std.specs.List.{prefix_len, AllByRecursion}
+use Rattle.std.specs.List.{prefix_len, All}
 use Rattle.words.specs.Laws.{Blank, Solid, Ended, Word}
 use Rattle.words.specs.Words.{blank, solid, blanks_of, from_word, word_of, after_word, word_at, no_word, has_words, begun, word_count, first_words, words_of, spaced}
 
@@ -14,25 +14,25 @@ Stops p [] = Unit {0}
 Stops p (x ∷ xs) = p x ≡ false
 
 abbrev Front : (ℕ → Bool) → ℕ → List ℕ → ℕ → Type 0
-Front p x xs n = AllByRecursion (λ b. p b ≡ true) (take n (x ∷ xs)) × Stops p (drop n (x ∷ xs))
+Front p x xs n = All (λ b. p b ≡ true) (take n (x ∷ xs)) × Stops p (drop n (x ∷ xs))
 
 -- the longest front that passes a test passes it, and what is left does not begin with a byte that does
-pub front : (p : ℕ → Bool) (xs : List ℕ) → AllByRecursion (λ b. p b ≡ true) (take (prefix_len p xs) xs) × Stops p (drop (prefix_len p xs) xs)
-front p [] = (tt, tt)
+pub front : (p : ℕ → Bool) (xs : List ℕ) → All (λ b. p b ≡ true) (take (prefix_len p xs) xs) × Stops p (drop (prefix_len p xs) xs)
+front p [] = (All-nil (λ b. p b ≡ true), tt)
 front p (x ∷ xs) =
     let more : p x ≡ true → Front p x xs (1 + prefix_len p xs) =
-    λ e. rw one-add ((e, (front p xs).0), (front p xs).1)
+    λ e. rw one-add (All-cons (λ b. p b ≡ true) x (take (prefix_len p xs) xs) e (front p xs).0, (front p xs).1)
     in
     let go : (t : Bool) → p x ≡ t → Front p x xs (cond t (1 + prefix_len p xs) 0) =
-    λ t. elim t as (λ t. p x ≡ t → Front p x xs (cond t (1 + prefix_len p xs) 0)) [ true ↦ more | false ↦ λ e. (tt, e) ]
+    λ t. elim t as (λ t. p x ≡ t → Front p x xs (cond t (1 + prefix_len p xs) 0)) [ true ↦ more | false ↦ λ e. (All-nil (λ b. p b ≡ true), e) ]
     in
     go (p x) refl
 
 -- bytes that pass, and then one that fails: the front is those that pass
-pub front-only : (p : ℕ → Bool) (xs ys : List ℕ) → AllByRecursion (λ b. p b ≡ true) xs → Stops p ys → prefix_len p (xs ++ ys) ≡ length xs
+pub front-only : (p : ℕ → Bool) (xs ys : List ℕ) → All (λ b. p b ≡ true) xs → Stops p ys → prefix_len p (xs ++ ys) ≡ length xs
 front-only p [] [] h s = refl
 front-only p [] (y ∷ ys) h s = rw s
-front-only p (x ∷ xs) ys h s = rw (h.0, one-add) (ap suc (front-only p xs ys h.1 s))
+front-only p (x ∷ xs) ys h s = rw (All-head (λ b. p b ≡ true) x xs h, one-add) (ap suc (front-only p xs ys (All-tail (λ b. p b ≡ true) x xs h) s))
 
 -- the laws of words
 pub splits : (line : List ℕ) → line ≡ blanks_of line ++ (word_of line ++ after_word line)
@@ -55,12 +55,12 @@ stops : (xs : List ℕ) → Ended xs → Stops solid xs
 stops [] s = tt
 stops (x ∷ xs) s = rw s
 
-solids : (xs : List ℕ) → Solid xs → AllByRecursion (λ b. solid b ≡ true) xs
+solids : (xs : List ℕ) → Solid xs → All (λ b. solid b ≡ true) xs
 solids xs h = All-weaker (λ b. blank b ≡ false) (λ b. solid b ≡ true) (λ b e. not_from_false (blank b) e) xs h
 
 begins : (word rest : List ℕ) → Solid word → 0 < length word → Stops blank (word ++ rest)
 begins [] rest h some = absurd (omega arith)
-begins (b ∷ word) rest h some = h.0
+begins (b ∷ word) rest h some = All-head (λ b. blank b ≡ false) b word h
 
 pub only : (blanks word rest : List ℕ) → Blank blanks → Solid word → 0 < length word → Ended rest → (word_of (blanks ++ (word ++ rest)) ≡ word) × (after_word (blanks ++ (word ++ rest)) ≡ rest)
 only blanks word rest b w some e =
@@ -105,11 +105,11 @@ counted n line word next e f = rw (e, f) (counts n line)
 -- blanks begin no word, nor do the bytes of one that has begun
 begun-blanks : (xs ys : List ℕ) → Blank xs → begun true (xs ++ ys) ≡ begun true ys
 begun-blanks [] ys h = refl
-begun-blanks (x ∷ xs) ys h = rw (h.0, zero-add) (begun-blanks xs ys h.1)
+begun-blanks (x ∷ xs) ys h = rw (All-head (λ b. blank b ≡ true) x xs h, zero-add) (begun-blanks xs ys (All-tail (λ b. blank b ≡ true) x xs h))
 
 begun-solids : (xs ys : List ℕ) → Solid xs → begun false (xs ++ ys) ≡ begun false ys
 begun-solids [] ys h = refl
-begun-solids (x ∷ xs) ys h = rw (h.0, zero-add) (begun-solids xs ys h.1)
+begun-solids (x ∷ xs) ys h = rw (All-head (λ b. blank b ≡ false) x xs h, zero-add) (begun-solids xs ys (All-tail (λ b. blank b ≡ false) x xs h))
 
 begun-ended : (ys : List ℕ) → Ended ys → begun false ys ≡ begun true ys
 begun-ended [] h = refl
@@ -119,7 +119,7 @@ counted-word : (word rest : List ℕ) → Solid word → eqb (length word) 0 ≡
 counted-word [] rest h some e =
     let none : ◌≡◌ {A = Bool} true false = some in
     absurd (grind (arith, nat_tests))
-counted-word (b ∷ word) rest h some e = rw (h.0, one-add) (ap suc (begun-solids word rest h.1 ∙ begun-ended rest e))
+counted-word (b ∷ word) rest h some e = rw (All-head (λ b. blank b ≡ false) b word h, one-add) (ap suc (begun-solids word rest (All-tail (λ b. blank b ≡ false) b word h) ∙ begun-ended rest e))
 
 -- a line with a word has one more than what stands behind it
 pub count-first : (line : List ℕ) → no_word line ≡ false → word_count line ≡ suc (word_count (after_word line))
@@ -186,12 +186,23 @@ spaced-ended (w ∷ ws) = refl
 
 -- lines that are written word by word
 pub written : (w : List ℕ) (ws : List (List ℕ)) → Word w → (word_of (spaced (w ∷ ws)) ≡ w) × (after_word (spaced (w ∷ ws)) ≡ spaced ws)
-written w ws h = only (32 ∷ []) w (spaced ws) (refl, tt) h.0 h.1 (spaced-ended ws)
+written w ws h = only (32 ∷ []) w (spaced ws) (All-cons (λ b. blank b ≡ true) 32 [] refl (All-nil (λ b. blank b ≡ true))) h.0 h.1 (spaced-ended ws)
 
-pub written_count : (ws : List (List ℕ)) → AllByRecursion Word ws → word_count (spaced ws) ≡ length ws
+pub written_count : (ws : List (List ℕ)) → All Word ws → word_count (spaced ws) ≡ length ws
 written_count [] h = refl
 written_count (w ∷ ws) h =
-    let cut = written w ws h.0 in
-    let some : eqb (length w) 0 ≡ false = ne_eqb (length w) 0 (λ e. omega (arith, h.0.1)) in
+    let word : Word w = All-head Word w ws h in
+    let cut = written w ws word in
+    let some : eqb (length w) 0 ≡ false = ne_eqb (length w) 0 (λ e. omega (arith, word.1)) in
     let first : no_word (spaced (w ∷ ws)) ≡ false = rw cut.0 some in
-    count-first (spaced (w ∷ ws)) first ∙ ap suc (ap word_count cut.1 ∙ written_count ws h.1)
+    count-first (spaced (w ∷ ws)) first ∙ ap suc (ap word_count cut.1 ∙ written_count ws (All-tail Word w ws h))
+
+-- and these are its words
+pub listed : (ws : List (List ℕ)) → All Word ws → words_of (spaced ws) ≡ ws
+listed [] h = refl
+listed (w ∷ ws) h =
+    let word : Word w = All-head Word w ws h in
+    let cut = written w ws word in
+    let some : eqb (length w) 0 ≡ false = ne_eqb (length w) 0 (λ e. omega (arith, word.1)) in
+    let first : no_word (spaced (w ∷ ws)) ≡ false = rw cut.0 some in
+    words_of-some (spaced (w ∷ ws)) first ∙ rw (cut.0, cut.1, listed ws (All-tail Word w ws h))

@@ -3,6 +3,7 @@ use Rattle.std.proofs.Common.{◌≡◌, ℕ, suc, ◌+◌, ◌-◌, ◌*◌, �
 use lib.Signed.{mag}
 use Rattle.std.proofs.lemmas.Fmt.{digits_decimal, digits_value-decimal, decimal_nonempty}
 use Rattle.std.proofs.lemmas.Str.Parse.{IsNumeralModel, numerals_by_fold, tells_all_ascii_digits}
+use Rattle.std.proofs.lemmas.List.Elements.{All-nil, All-cons}
 use Rattle.std.proofs.lemmas.List.{at_drop_more, at_drop_all}
 use Rattle.std.proofs.lemmas.Bool.{and_parts, and_right, cond-false, le-leb, lt-leb}
 use Rattle.std.proofs.lemmas.Bool.Decides.{nat_tests}
@@ -82,12 +83,12 @@ reads_signed (negsuc n) h = rw (reads (suc n) 2147483648 (omega arith) (omega ar
 
 -- a digit is no blank
 digits-solid : (word : List ℕ) → all_ascii_digits word ≡ true → Solid word
-digits-solid [] h = tt
+digits-solid [] h = All-nil (λ b. blank b ≡ false)
 digits-solid (b ∷ bytes) h =
     let parts = and_parts (is_ascii_digit b) (all_ascii_digits bytes) h in
     let digit : is_ascii_digit b ≡ true = parts.0 in
     let other : blank b ≡ false = grind (arith, nat_tests) in
-    (other, digits-solid bytes parts.1)
+    All-cons (λ b. blank b ≡ false) b bytes other (digits-solid bytes parts.1)
 
 -- a number in decimal is a word
 pub decimal-word : (n : ℕ) → n < 2 ^ 64 → Solid (decimal n) × (0 < length (decimal n))
@@ -95,7 +96,7 @@ decimal-word n h = (digits-solid (decimal n) (digits_decimal own n h), decimal_n
 
 pub signed_word : (z : ℤ) → mag z < 2 ^ 31 → Solid (signed_decimal z) × (0 < length (signed_decimal z))
 signed_word (pos n) h = decimal-word n (omega arith)
-signed_word (negsuc n) h = ((refl, (decimal-word (suc n) (omega arith)).0), omega arith)
+signed_word (negsuc n) h = (All-cons (λ b. blank b ≡ false) 45 (decimal (suc n)) refl (decimal-word (suc n) (omega arith)).0, omega arith)
 
 -- every number that fits 32 bits is a word and is read back
 pub reads_32 : (z : ℤ) → Fits32 z → signed_of (signed_decimal z) ≡ Some z
@@ -104,4 +105,4 @@ reads_32 (negsuc n) h = rw (reads (suc n) 2147483648 (omega arith) (omega arith)
 
 pub word-32 : (z : ℤ) → Fits32 z → Solid (signed_decimal z) × (0 < length (signed_decimal z))
 word-32 (pos n) h = decimal-word n (omega arith)
-word-32 (negsuc n) h = ((refl, (decimal-word (suc n) (omega arith)).0), omega arith)
+word-32 (negsuc n) h = (All-cons (λ b. blank b ≡ false) 45 (decimal (suc n)) refl (decimal-word (suc n) (omega arith)).0, omega arith)

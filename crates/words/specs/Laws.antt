@@ -2,17 +2,17 @@
 use Rattle.std.specs.Prelude.{◌≡◌, ℕ, suc, ◌^◌, ◌<◌, ◌≤◌, true, false, not, ◌&&◌, List, [], ◌∷◌, ◌++◌, length, ℤ, pos, negsuc, Some, decimal, ◌==◌}
 use Rattle.std.specs.Int.Signed.{mag}
 use Rattle.std.specs.Fmt.{signed_decimal}
-use Rattle.std.specs.List.{AllByRecursion}
+use Rattle.std.specs.List.{All}
 use Rattle.words.specs.Numbers.{natural_upto, signed_of}
-use Rattle.words.specs.Words.{blank, blanks_of, word_of, after_word, word_at, has_words, word_count, spaced}
+use Rattle.words.specs.Words.{blank, blanks_of, word_of, after_word, word_at, has_words, word_count, words_of, spaced}
 
 -- bytes that are all blanks
 abbrev pub Blank : List ℕ → Type 0
-Blank bytes = AllByRecursion (λ b. blank b ≡ true) bytes
+Blank bytes = All (λ b. blank b ≡ true) bytes
 
 -- bytes that have no blank among them
 abbrev pub Solid : List ℕ → Type 0
-Solid bytes = AllByRecursion (λ b. blank b ≡ false) bytes
+Solid bytes = All (λ b. blank b ≡ false) bytes
 
 -- bytes that are none or begin with a blank
 abbrev pub Ended : List ℕ → Type 0
@@ -51,7 +51,9 @@ pub record WordsLaw : Type 0 where
   -- a line that is written word by word is cut into these words
   pub written : (word : List ℕ) (words : List (List ℕ)) → Word word → (word_of (spaced (word ∷ words)) ≡ word) × (after_word (spaced (word ∷ words)) ≡ spaced words)
   -- and has as many
-  pub written_count : (words : List (List ℕ)) → AllByRecursion Word words → word_count (spaced words) ≡ length words
+  pub written_count : (words : List (List ℕ)) → All Word words → word_count (spaced words) ≡ length words
+  -- and these are all its words, in their order
+  pub listed : (words : List (List ℕ)) → All Word words → words_of (spaced words) ≡ words
   -- a number is read back from its decimal digits
   pub reads : (n most : ℕ) → n ≤ most → most < 2 ^ 64 → natural_upto most (decimal n) ≡ Some n
   -- and so is a number that may be negative

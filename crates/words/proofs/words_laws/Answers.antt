@@ -1,4 +1,4 @@
-use Rattle.words.proofs.Cuts.{front, splits, whole, behind, only, none, later, counts, many, written, written_count}
+use Rattle.words.proofs.Cuts.{front, splits, whole, behind, only, none, later, counts, many, written, written_count, listed}
 use Rattle.words.proofs.Reading.{reads, reads_signed, reads_32}
 use Rattle.words.specs.Words.{blank}
 use Rattle.words.proofs.words_laws.Goals as goal
@@ -17,6 +17,7 @@ returns c =
       many = many;
       written = written;
       written_count = written_count;
+      listed = listed;
       reads = reads;
       reads_signed = reads_signed;
       reads_32 = reads_32;
