@@ -5,6 +5,7 @@ pub mod Bids
 pub mod Class
 pub mod Entering
 pub mod Figures
+pub mod KindNames
 pub mod Lots
 pub mod Price
 pub mod Ranges

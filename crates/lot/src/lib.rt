@@ -6,6 +6,7 @@ pub mod bid;
 pub mod bids;
 pub mod class;
 pub mod figures;
+mod kind_names;
 pub mod pri;
 #[cfg(test)]
 mod tests;

@@ -1,2 +1,3 @@
 pub mod Cuts
+mod Names
 pub mod Reading

@@ -1,4 +1,5 @@
 pub mod Iterating
 pub mod Laws
+pub mod Names
 pub mod Numbers
 pub mod Words

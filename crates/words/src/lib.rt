@@ -2,10 +2,13 @@
 #![tactic(auto)]
 
 ghost use Rattle.words.specs.Laws.{WordsLaw};
+ghost use Rattle.words.specs.Names.{SameNames};
 ghost use Rattle.words.specs.Numbers.{natural_upto, signed_of};
 ghost use Rattle.words.specs.Iterating.{words_left};
 ghost use Rattle.words.specs.Words.{after_word, blank, word_count, word_of, words_of};
 ghost use Rattle.std.specs.Prelude.{◌≡◌, ℕ, List, Option};
+
+use std::str::from_utf8;
 
 // Whether a byte stands between words.
 fn is_blank(b: u8) -> bool
@@ -62,6 +65,13 @@ pub fn count_words(line: &[u8]) -> usize
     ensures { result ≡ word_count line.now }
 {
     Words::new(line).count()
+}
+
+// A word as a text: empty where it is none, as no name is.
+pub fn text(word: &[u8]) -> &str
+    ensures { SameNames word.now result.now }
+{
+    from_utf8(word).unwrap_or("")
 }
 
 // The number that a word of digits writes, if it is at most `most`.

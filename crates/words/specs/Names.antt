@@ -1,0 +1,17 @@
+-- Words that are names of ASCII letters. Assumes nothing.
+use Rattle.std.specs.Prelude.{◌≡◌, ℕ, Bool, true, false, ◌&&◌, List, [], ◌∷◌, nat_lt}
+use Rattle.std.specs.Str.{bytes_eq}
+
+-- whether bytes are all ASCII
+abbrev pub plain : List ℕ → Bool
+plain [] = true
+plain (b ∷ bytes) = nat_lt b 128 && plain bytes
+
+-- whether bytes can be a name: one ASCII byte or more
+abbrev pub name_like : List ℕ → Bool
+name_like [] = false
+name_like (b ∷ bytes) = plain (b ∷ bytes)
+
+-- a text that is a name just where a word is that name
+abbrev pub SameNames : List ℕ → List ℕ → Type 0
+SameNames word text = (name : List ℕ) → name_like name ≡ true → bytes_eq text name ≡ bytes_eq word name
