@@ -1,29 +1,18 @@
 -- Lines that are written word by word. Assumes nothing.
 use Rattle.std.proofs.Common.{◌≡◌, ℕ, ◌^◌, ◌<◌, ◌≤◌, false, eqb, List, [], ◌∷◌, length, ℤ, Some, Ok, codes, decimal, refl, ◌∙◌, arith, rules}
 use lib.Signed.{mag}
-use Rattle.lot_sheet.specs.Commands.{bid_by, bid_of, command_of, kind_of}
-use Rattle.lot_sheet.specs.Laws.{bid_line, kind_word, spaced}
+use Rattle.lot_sheet.specs.Commands.{bid_by, bid_of, command_of}
+use Rattle.lot_sheet.specs.Laws.{bid_line}
 use Rattle.lot_sheet.specs.declared.command.Command.TheVariants.{Bid}
 use Rattle.lot.specs.declared.bid.Kind.{Kind}
+use Rattle.lot.specs.KindNames.{kind_name, kind_named}
 use Rattle.lot.specs.declared.bid.Kind.TheVariants.{Standard, AllOrNothing}
 use Rattle.std.proofs.lemmas.Bool.{ne_eqb}
 use Rattle.std.specs.Fmt.{signed_decimal}
-use Rattle.words.proofs.Cuts.{only}
+use Rattle.words.proofs.Cuts.{written}
 use Rattle.words.proofs.Reading.{decimal-word, signed_word, reads, reads_signed}
-use Rattle.words.specs.Laws.{Ended, Solid}
-use Rattle.words.specs.Words.{word_of, after_word}
-
--- one byte or more, none of them blank
-abbrev Word : List ℕ → Type 0
-Word bytes = Solid bytes × (0 < length bytes)
-
-spaced-ended : (ws : List (List ℕ)) → Ended (spaced ws)
-spaced-ended [] = tt
-spaced-ended (w ∷ ws) = refl
-
--- the first word of such a line, and what stands behind it
-first : (w : List ℕ) (ws : List (List ℕ)) → Word w → (word_of (spaced (w ∷ ws)) ≡ w) × (after_word (spaced (w ∷ ws)) ≡ spaced ws)
-first w ws h = only (32 ∷ []) w (spaced ws) (refl, tt) h.0 h.1 (spaced-ended ws)
+use Rattle.words.specs.Laws.{Word}
+use Rattle.words.specs.Words.{spaced, word_of, after_word}
 
 some : (w : List ℕ) → Word w → eqb (length w) 0 ≡ false
 some w h = ne_eqb (length w) 0 (λ e. omega arith)
@@ -31,17 +20,17 @@ some w h = ne_eqb (length w) 0 (λ e. omega arith)
 -- a bid line by its four words
 four : (a b c d : List ℕ) → Word a → Word b → Word c → Word d → bid_of (spaced (a ∷ b ∷ c ∷ d ∷ [])) ≡ bid_by a b c d
 four a b c d ha hb hc hd =
-    let fa = first a (b ∷ c ∷ d ∷ []) ha in
-    let fb = first b (c ∷ d ∷ []) hb in
-    let fc = first c (d ∷ []) hc in
-    let fd = first d [] hd in
+    let fa = written a (b ∷ c ∷ d ∷ []) ha in
+    let fb = written b (c ∷ d ∷ []) hb in
+    let fc = written c (d ∷ []) hc in
+    let fd = written d [] hd in
     rw (fa.0, fa.1, fb.0, fb.1, fc.0, fc.1, fd.0, fd.1, some a ha, some b hb, some c hc, some d hd)
 
-kind-is-word : (kind : Kind) → Word (kind_word kind)
+kind-is-word : (kind : Kind) → Word (kind_name kind)
 kind-is-word Standard = (search rules, omega arith)
 kind-is-word AllOrNothing = (search rules, omega arith)
 
-kind-back : (kind : Kind) → kind_of (kind_word kind) ≡ Some kind
+kind-back : (kind : Kind) → kind_named (kind_name kind) ≡ Some kind
 kind-back Standard = refl
 kind-back AllOrNothing = refl
 
@@ -54,9 +43,9 @@ pub reads-bid : (member : ℕ) (kind : Kind) (size : ℕ) (price : ℤ) → memb
 reads-bid member kind size price m s p =
     let a = decimal-word member (omega arith) in
     let c = decimal-word size (omega arith) in
-    let rest = decimal member ∷ kind_word kind ∷ decimal size ∷ signed_decimal price ∷ [] in
-    let start = first (codes "bid") rest (search rules, omega arith) in
-    let words = four (decimal member) (kind_word kind) (decimal size) (signed_decimal price) a (kind-is-word kind) c (signed_word price p) in
+    let rest = decimal member ∷ kind_name kind ∷ decimal size ∷ signed_decimal price ∷ [] in
+    let start = written (codes "bid") rest (search rules, omega arith) in
+    let words = four (decimal member) (kind_name kind) (decimal size) (signed_decimal price) a (kind-is-word kind) c (signed_word price p) in
     begins (bid_line member kind size price) (spaced rest) start.0 start.1
     ∙ words
     ∙ rw (reads member 65535 m (omega arith), kind-back kind, reads size 65535 s (omega arith), reads_signed price p)

@@ -5,8 +5,7 @@ use Rattle.lot_sheet.specs.declared.command.Command.{Command}
 use Rattle.lot_sheet.specs.declared.command.Command.TheVariants.{Nothing, Lot, Bid}
 use Rattle.lot_sheet.specs.declared.command.Fault.{Fault}
 use Rattle.lot_sheet.specs.declared.command.Fault.TheVariants.{NoSuchCommand, LotWords, Member, Size, Price, Kind as KindFault, BidWords as BidFault}
-use Rattle.lot.specs.declared.bid.Kind.{Kind}
-use Rattle.lot.specs.declared.bid.Kind.TheVariants.{Standard, AllOrNothing}
+use Rattle.lot.specs.KindNames.{kind_named}
 use Rattle.std.specs.Str.{bytes_eq}
 use Rattle.words.specs.Numbers.{natural_upto, signed_of}
 use Rattle.words.specs.Words.{word_of, after_word, word_at, has_words}
@@ -21,10 +20,6 @@ reason_of KindFault = codes "the kind is not standard or all"
 reason_of Size = codes "the size is not a number from 0 to 65535"
 reason_of Price = codes "the price is not a number from -2147483648 to 2147483647"
 
--- the kind that a word names
-abbrev pub kind_of : List ℕ → Option Kind
-kind_of word = cond (bytes_eq word (codes "standard")) (Some Standard) (cond (bytes_eq word (codes "all")) (Some AllOrNothing) None)
-
 -- goes on with a value, or ends with the reason for which there is none
 abbrev pub given : {A B : Type 0} → Option A → Fault → (A → Result B Fault) → Result B Fault
 given None fault next = Err fault
@@ -34,7 +29,7 @@ given (Some x) fault next = next x
 abbrev pub bid_by : List ℕ → List ℕ → List ℕ → List ℕ → Result Command Fault
 bid_by member kind size price =
     given (natural_upto 65535 member) Member (λ m.
-    given (kind_of kind) KindFault (λ k.
+    given (kind_named kind) KindFault (λ k.
     given (natural_upto 65535 size) Size (λ s.
     given (signed_of price) Price (λ p.
     Ok (Bid (record { member = m; kind = k; size = record { 0 = s }; price = record { 0 = p } }))))))

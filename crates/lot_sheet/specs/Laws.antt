@@ -4,22 +4,13 @@ use Rattle.std.specs.Int.Signed.{mag}
 use Rattle.lot_sheet.specs.Commands.{command_of}
 use Rattle.lot_sheet.specs.declared.command.Command.TheVariants.{Bid}
 use Rattle.lot.specs.declared.bid.Kind.{Kind}
-use Rattle.lot.specs.declared.bid.Kind.TheVariants.{Standard, AllOrNothing}
+use Rattle.lot.specs.KindNames.{kind_name}
 use Rattle.std.specs.Fmt.{signed_decimal}
-use Rattle.std.specs.List.{flat_map}
-
--- the word for each kind
-abbrev pub kind_word : Kind → List ℕ
-kind_word Standard = codes "standard"
-kind_word AllOrNothing = codes "all"
-
--- words with a space (32) before each
-abbrev pub spaced : List (List ℕ) → List ℕ
-spaced words = flat_map (λ word. 32 ∷ word) words
+use Rattle.words.specs.Words.{spaced}
 
 -- the line of a bid
 abbrev pub bid_line : ℕ → Kind → ℕ → ℤ → List ℕ
-bid_line member kind size price = spaced (codes "bid" ∷ decimal member ∷ kind_word kind ∷ decimal size ∷ signed_decimal price ∷ [])
+bid_line member kind size price = spaced (codes "bid" ∷ decimal member ∷ kind_name kind ∷ decimal size ∷ signed_decimal price ∷ [])
 
 -- the laws of lines
 pub record SheetLaw : Type 0 where

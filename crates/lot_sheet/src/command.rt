@@ -1,12 +1,13 @@
 // What a line of a lot sheet asks for, or why it is an error.
-ghost use Rattle.lot_sheet.specs.Commands.{bid_of, command_of, Four, kind_of, lot_of, reason_of, silent};
+ghost use Rattle.lot_sheet.specs.Commands.{bid_of, command_of, Four, lot_of, reason_of};
 ghost use Rattle.lot_sheet.specs.Laws.{SheetLaw};
-ghost use Rattle.words.specs.Numbers.{natural_upto};
-ghost use Rattle.std.specs.Prelude.{◌≡◌};
+ghost use Rattle.std.specs.Prelude.{◌≡◌, Some};
 
 use lot::bid::{Bid, Kind, Price};
 use share::units::Parts;
-use words::{natural, signed, split_word};
+use std::error::Error;
+use std::fmt;
+use words::{Number, split_word, text};
 
 #[derive(Clone, Copy)]
 pub enum Command {
@@ -19,7 +20,7 @@ pub enum Command {
 }
 
 // Why a line is an error, in the order in which the reasons are looked for.
-#[derive(Clone, Copy)]
+#[derive(Clone, Copy, PartialEq, Eq, Debug)]
 pub enum Fault {
     NoSuchCommand,
     LotWords,
@@ -47,20 +48,30 @@ impl Fault {
     }
 }
 
+// By hand, since a derived `Display` promises nothing of what it writes.
+impl fmt::Display for Fault {
+    ghost output = { λ x. Some (reason_of x) };
+
+    fn fmt<W: fmt::Write>(&self, f: &mut fmt::Formatter<W>) -> fmt::Result {
+        f.write_str(self.reason())
+    }
+}
+
+impl Error for Fault {}
+
 impl Command {
     // What a line asks for.
     pub fn parse(line: &[u8]) -> Result<Command, Fault>
         ensures { result ≡ command_of line.now }
     {
         let (first, rest) = split_word(line);
-        if is_silent(first) {
-            Ok(Command::Nothing)
-        } else if first == b"lot".as_slice() {
-            lot(rest)
-        } else if first == b"bid".as_slice() {
-            bid(rest)
-        } else {
-            Err(Fault::NoSuchCommand)
+        match first {
+            [] | [b'#', ..] => Ok(Command::Nothing),
+            _ => match text(first) {
+                "lot" => lot(rest),
+                "bid" => bid(rest),
+                _ => Err(Fault::NoSuchCommand),
+            },
         }
     }
 }
@@ -72,13 +83,6 @@ struct BidWords<'a> {
     kind: &'a [u8],
     size: &'a [u8],
     price: &'a [u8],
-}
-
-// Whether a line does nothing, by its first word: there is none, or a comment begins.
-fn is_silent(first: &[u8]) -> bool
-    ensures { result ≡ silent first.now }
-{
-    first.is_empty() || first.starts_with(b"#")
 }
 
 // A lot line, of which `rest` stands behind `lot`.
@@ -93,7 +97,7 @@ fn lot(rest: &[u8]) -> Result<Command, Fault>
     }
 }
 
-// The words behind `bid`, if they are four.
+// The words behind `bid`, if they are four. By `split_word`: with five calls of `Words::next` this function alone took minutes to check.
 fn bid_words(rest: &[u8]) -> Option<BidWords<'_>>
     ensures { Four rest.now result }
 {
@@ -118,37 +122,16 @@ fn bid(rest: &[u8]) -> Result<Command, Fault>
     ensures { result ≡ bid_of rest.now }
 {
     let words = bid_words(rest).ok_or(Fault::BidWords)?;
-    let member = small(words.member).ok_or(Fault::Member)?;
-    let kind = kind_named(words.kind).ok_or(Fault::Kind)?;
-    let size = small(words.size).ok_or(Fault::Size)?;
-    let price = signed(words.price).ok_or(Fault::Price)?;
+    let member = u16::read(words.member).ok_or(Fault::Member)?;
+    let kind = Kind::named(text(words.kind)).ok_or(Fault::Kind)?;
+    let size = u16::read(words.size).ok_or(Fault::Size)?;
+    let price = i32::read(words.price).ok_or(Fault::Price)?;
     Ok(Command::Bid(Bid {
         member,
         kind,
         size: Parts(u32::from(size)),
         price: Price(price),
     }))
-}
-
-// The number that a word writes, if it is at most 65,535.
-fn small(word: &[u8]) -> Option<u16>
-    ensures { result ≡ natural_upto 65535 word.now }
-{
-    let n = natural(word, 65_535)?;
-    Some(n as u16)
-}
-
-// The kind that a word names.
-fn kind_named(word: &[u8]) -> Option<Kind>
-    ensures { result ≡ kind_of word.now }
-{
-    if word == b"standard".as_slice() {
-        Some(Kind::Standard)
-    } else if word == b"all".as_slice() {
-        Some(Kind::AllOrNothing)
-    } else {
-        None
-    }
 }
 
 // What holds of every line of a lot sheet.

@@ -1,5 +1,5 @@
 -- How a line is cut at the bytes that pass a test. Assumes nothing.
-use Rattle.std.proofs.Common.{◌≡◌, ℕ, zero, suc, ◌+◌, ◌<◌, ◌≤◌, Bool, true, false, cond, not, ◌&&◌, eqb, List, [], ◌∷◌, ◌++◌, length, take, drop, refl, ap, ◌∙◌, zero-add, one-add, arith}
+use Rattle.std.proofs.Common.{◌≡◌, ℕ, zero, suc, ◌+◌, ◌<◌, ◌≤◌, Bool, true, false, cond, not, ◌&&◌, eqb, List, [], ◌∷◌, ◌++◌, length, get_or, take, drop, sym, refl, ap, ◌∙◌, subst, zero-add, one-add, arith}
 use Rattle.std.proofs.lemmas.List.Elements.{All-nil, All-cons, All-head, All-tail, All-weaker}
 use Rattle.std.proofs.lemmas.List.{nil_from_length, take-append-drop, take_at, drop_at}
 use Rattle.std.proofs.lemmas.Bool.{eqb-true, ne_eqb, not-true, not-false, not_from_false}
@@ -206,3 +206,24 @@ listed (w ∷ ws) h =
     let some : eqb (length w) 0 ≡ false = ne_eqb (length w) 0 (λ e. omega (arith, word.1)) in
     let first : no_word (spaced (w ∷ ws)) ≡ false = rw cut.0 some in
     words_of-some (spaced (w ∷ ws)) first ∙ rw (cut.0, cut.1, listed ws (All-tail Word w ws h))
+
+-- the word at a number is the one at that place of the list, if there are as many
+pub each : (n : ℕ) (line : List ℕ) → word_at n line ≡ get_or (words_of line) n []
+each zero line =
+    let At : List (List ℕ) → Type 0 = λ ws. word_of line ≡ get_or ws 0 [] in
+    let go : (t : Bool) → no_word line ≡ t → At (words_of line) =
+    λ t. elim t as (λ t. no_word line ≡ t → At (words_of line)) [
+      | true ↦ (λ e. subst At (sym (words_of-none line e).0) (nil_from_length (word_of line) (eqb-true _ 0 e)))
+      | false ↦ (λ e. subst At (sym (words_of-some line e)) refl)
+    ]
+    in
+    go (no_word line) refl
+each (suc n) line =
+    let At : List (List ℕ) → Type 0 = λ ws. word_at (suc n) line ≡ get_or ws (suc n) [] in
+    let go : (t : Bool) → no_word line ≡ t → At (words_of line) =
+    λ t. elim t as (λ t. no_word line ≡ t → At (words_of line)) [
+      | true ↦ (λ e. subst At (sym (words_of-none line e).0) (further n line (nil_from_length (word_of line) (eqb-true _ 0 e))))
+      | false ↦ (λ e. subst At (sym (words_of-some line e)) (each n (after_word line)))
+    ]
+    in
+    go (no_word line) refl

@@ -1,5 +1,5 @@
 -- What holds of every line and of every number. Assumes nothing.
-use Rattle.std.specs.Prelude.{◌≡◌, ℕ, suc, ◌^◌, ◌<◌, ◌≤◌, true, false, not, ◌&&◌, List, [], ◌∷◌, ◌++◌, length, ℤ, pos, negsuc, Some, decimal, ◌==◌}
+use Rattle.std.specs.Prelude.{◌≡◌, ℕ, suc, ◌^◌, ◌<◌, ◌≤◌, true, false, not, ◌&&◌, List, [], ◌∷◌, ◌++◌, length, slice_index_or, ℤ, pos, negsuc, Some, decimal, ◌==◌}
 use Rattle.std.specs.Int.Signed.{mag}
 use Rattle.std.specs.Fmt.{signed_decimal}
 use Rattle.std.specs.List.{All}
@@ -48,6 +48,8 @@ pub record WordsLaw : Type 0 where
   pub counts : (n : ℕ) (line : List ℕ) → has_words (suc n) line ≡ (not (length (word_at n line) == 0) && length (word_at (suc n) line) == 0)
   -- the count of words is the one number of which the line has just as many
   pub many : (n : ℕ) (line : List ℕ) → has_words n line ≡ (word_count line == n)
+  -- the word at n is the one at that place of the words of the line, if there are as many
+  pub each : (n : ℕ) (line : List ℕ) → word_at n line ≡ slice_index_or (words_of line) n []
   -- a line that is written word by word is cut into these words
   pub written : (word : List ℕ) (words : List (List ℕ)) → Word word → (word_of (spaced (word ∷ words)) ≡ word) × (after_word (spaced (word ∷ words)) ≡ spaced words)
   -- and has as many

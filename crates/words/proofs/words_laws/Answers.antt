@@ -1,4 +1,4 @@
-use Rattle.words.proofs.Cuts.{front, splits, whole, behind, only, none, later, counts, many, written, written_count, listed}
+use Rattle.words.proofs.Cuts.{front, splits, whole, behind, only, none, later, counts, many, each, written, written_count, listed}
 use Rattle.words.proofs.Reading.{reads, reads_signed, reads_32}
 use Rattle.words.specs.Words.{blank}
 use Rattle.words.proofs.words_laws.Goals as goal
@@ -15,6 +15,7 @@ returns c =
       later = later;
       counts = counts;
       many = many;
+      each = each;
       written = written;
       written_count = written_count;
       listed = listed;
