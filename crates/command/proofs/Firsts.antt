@@ -3,7 +3,6 @@ use Rattle.std.proofs.Common.{◌≡◌, ℕ, zero, suc, ◌≤◌, Bool, true, 
 use Rattle.std.proofs.lemmas.Slice.Eq.{bytes_eq-Decides}
 use Rattle.std.proofs.lemmas.Bool.{leb-true}
 use Rattle.std.specs.Option.{option_map}
-use Rattle.std.specs.List.{AllByRecursion}
 use Rattle.std.specs.Str.{bytes_eq}
 use Rattle.share.specs.declared.units.Dollars.{Dollars}
 use Rattle.lot.specs.declared.bid.Kind.{Kind}
@@ -73,6 +72,10 @@ bid-named rest = keeps-cond (Named (codes "bid")) (eqb (word_count rest) 5) _ Co
 abbrev Rowed : List ℕ × Result Command Fault → Type 0
 Rowed row = Keeps (λ c. Begins c row.0) row.1
 
+abbrev EachRowed : List (List ℕ × Result Command Fault) → Type 0
+EachRowed [] = Unit {0}
+EachRowed (row ∷ rows) = Rowed row × EachRowed rows
+
 by-each : {A : Type 0} (name : List ℕ) (r : Result A Fault) (f : A → Command) → ((x : A) → Begins (f x) name) → Keeps (λ c. Begins c name) (given r (λ x. Ok (f x)))
 by-each name r f h = keeps-each (λ c. Begins c name) r (λ x. Ok (f x)) (λ x. keeps-ok (λ c. Begins c name) (f x) (h x))
 
@@ -88,7 +91,7 @@ enrol-named rest = keeps-each (Named (codes "enrol")) _ _ (λ h. keeps-ok (Named
 top-up-named : (rest : List ℕ) → Keeps (Named (codes "top-up")) (top_up_of rest)
 top-up-named rest = keeps-each (Named (codes "top-up")) _ _ (λ h. keeps-ok (Named (codes "top-up")) _ refl)
 
-orders-named : (rest : List ℕ) → AllByRecursion Rowed (orders rest)
+orders-named : (rest : List ℕ) → EachRowed (orders rest)
 orders-named rest = (
   by-each (codes "house") _ _ (λ n. refl),
   (
@@ -121,7 +124,7 @@ orders-named rest = (
   ),
 )
 
-questions-named : (rest : List ℕ) → AllByRecursion Rowed (questions rest)
+questions-named : (rest : List ℕ) → EachRowed (questions rest)
 questions-named rest = (
   by_count (codes "phase") rest _ refl,
   (
@@ -148,7 +151,7 @@ questions-named rest = (
   ),
 )
 
-by_rows : (word : List ℕ) (rows : List (List ℕ × Result Command Fault)) (last : Result Command Fault) → AllByRecursion Rowed rows → Keeps (λ c. Begins c word) last → Keeps (λ c. Begins c word) (choose word rows last)
+by_rows : (word : List ℕ) (rows : List (List ℕ × Result Command Fault)) (last : Result Command Fault) → EachRowed rows → Keeps (λ c. Begins c word) last → Keeps (λ c. Begins c word) (choose word rows last)
 by_rows word [] last h k c e = k c e
 by_rows word (row ∷ rows) last h k c e =
     let Goes : Bool → Type 0 = λ t. cond t row.1 (choose word rows last) ≡ Ok c → Begins c word in

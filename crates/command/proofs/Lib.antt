@@ -1,5 +1,4 @@
 mod Filling
 mod Firsts
-mod Names
 mod Offering
 mod Written

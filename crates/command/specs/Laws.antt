@@ -1,6 +1,6 @@
 -- What holds of every line and of every command. Assumes nothing.
 use Rattle.std.specs.Prelude.{◌≡◌, ℕ, ◌<◌, ◌≤◌, true, List, [], ◌∷◌, length, ℤ, Ok, codes}
-use Rattle.std.specs.List.{AllByRecursion}
+use Rattle.std.specs.List.{All}
 use Rattle.share.specs.declared.units.Dollars.{Dollars}
 use Rattle.words.specs.Laws.{Fits32}
 use Rattle.words.specs.Numbers.{numeral, value}
@@ -39,4 +39,4 @@ pub record CommandLaw : Type 0 where
   -- and the house
   pub house : (d : Dollars) → Long d → command_of (spaced (codes "house" ∷ amount d ∷ [])) ≡ Ok (command.House d)
   -- an `open` with any number of lots is the offer of them
-  pub opens : (lots : List Terms) → 0 < length lots → AllByRecursion Sized lots → command_of (spaced (codes "open" ∷ lots_words lots)) ≡ Ok (command.Call (call.Open (offering lots)))
+  pub opens : (lots : List Terms) → 0 < length lots → All Sized lots → command_of (spaced (codes "open" ∷ lots_words lots)) ≡ Ok (command.Call (call.Open (offering lots)))

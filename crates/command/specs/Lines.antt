@@ -1,10 +1,9 @@
 -- How commands are written. Assumes nothing.
 use Rattle.std.specs.Prelude.{◌≡◌, ℕ, ◌^◌, ◌<◌, ◌≤◌, true, List, [], ◌∷◌, take, codes, decimal}
 use Rattle.std.specs.Fmt.{signed_decimal}
-use Rattle.std.specs.List.{AllByRecursion}
+use Rattle.std.specs.List.{All}
 use Rattle.share.specs.declared.units.Dollars.{Dollars}
-use Rattle.lot.specs.declared.bid.Kind.{Kind}
-use Rattle.lot.specs.declared.bid.Kind.TheVariants.{Standard, AllOrNothing}
+use Rattle.lot.specs.KindNames.{kind_name}
 use Rattle.words.specs.Laws.{Fits32}
 use Rattle.auction.specs.declared.terms.Terms.{Terms}
 use Rattle.book.specs.declared.calls.Call.TheVariants as call
@@ -47,11 +46,6 @@ Begins (command.House n) word = word ≡ codes "house"
 Begins (command.Call c) word = word ≡ call_name c
 Begins (command.Ask q) word = word ≡ question_name q
 
--- the word for each kind
-abbrev pub kind_word : Kind → List ℕ
-kind_word Standard = codes "standard"
-kind_word AllOrNothing = codes "all"
-
 -- an amount in digits
 abbrev pub amount : Dollars → List ℕ
 amount d = decimal d.0
@@ -68,7 +62,7 @@ call_words (call.TopUp m f a) = decimal m ∷ amount f ∷ amount a ∷ []
 call_words (call.Release m) = decimal m ∷ []
 call_words (call.Open o) = lots_words (take o.count o.terms)
 call_words (call.Excuse m l) = decimal m ∷ decimal l ∷ []
-call_words (call.Bid m l k n p) = decimal m ∷ decimal l ∷ kind_word k ∷ decimal n ∷ signed_decimal p ∷ []
+call_words (call.Bid m l k n p) = decimal m ∷ decimal l ∷ kind_name k ∷ decimal n ∷ signed_decimal p ∷ []
 call_words call.Close = []
 call_words (call.Charge n) = amount n ∷ []
 call_words (call.Recover n) = amount n ∷ []
@@ -103,7 +97,7 @@ abbrev pub Writable : Call → Type 0
 Writable (call.Enrol m f a) = Short m × Long f × Long a
 Writable (call.TopUp m f a) = Short m × Long f × Long a
 Writable (call.Release m) = Short m
-Writable (call.Open o) = (0 < o.count) × (o.count ≤ 4) × AllByRecursion Sized (take o.count o.terms)
+Writable (call.Open o) = (0 < o.count) × (o.count ≤ 4) × All Sized (take o.count o.terms)
 Writable (call.Excuse m l) = Short m × Short l
 Writable (call.Bid m l k n p) = Short m × Short l × Short n × Fits32 p
 Writable call.Close = Unit {0}

@@ -1,9 +1,8 @@
 -- Words read as the values of a command. Assumes nothing.
-use Rattle.std.specs.Prelude.{ℕ, cond, List, ℤ, Some, None, Ok, Err, codes, Option, Result, ◌==◌}
+use Rattle.std.specs.Prelude.{ℕ, cond, List, ℤ, Some, None, Ok, Err, Option, Result, ◌==◌}
 use Rattle.share.specs.declared.units.Dollars.{Dollars}
 use Rattle.lot.specs.declared.bid.Kind.{Kind}
-use Rattle.lot.specs.declared.bid.Kind.TheVariants.{Standard, AllOrNothing}
-use Rattle.std.specs.Str.{bytes_eq}
+use Rattle.lot.specs.KindNames.{kind_named}
 use Rattle.words.specs.Numbers.{natural_upto, signed_of}
 use Rattle.words.specs.Words.{word_at, word_count}
 use Rattle.book.specs.declared.calls.Call.{Call}
@@ -39,36 +38,48 @@ dollars_of word = given (or_fault Amount (natural_upto 18446744073709551615 word
 
 -- a word as the kind of a bid
 abbrev pub kind_of : List ℕ → Result Kind Fault
-kind_of word = cond (bytes_eq word (codes "standard")) (Ok Standard) (cond (bytes_eq word (codes "all")) (Ok AllOrNothing) (Err NoKind))
+kind_of word = or_fault NoKind (kind_named word)
 
 -- goes on if a line has just so many words
 abbrev pub counted : {A : Type 0} → ℕ → List ℕ → Result A Fault → Result A Fault
 counted n rest next = cond (word_count rest == n) next (Err Count)
 
+-- one value, by how its word is read
+abbrev pub one_of : {A : Type 0} → (List ℕ → Result A Fault) → List ℕ → Result A Fault
+one_of read rest = counted 1 rest (read (word_at 0 rest))
+
+-- two values
+abbrev pub two_of : {A B : Type 0} → (List ℕ → Result A Fault) → (List ℕ → Result B Fault) → List ℕ → Result (A × B) Fault
+two_of first second rest =
+    counted 2 rest (
+    given (first (word_at 0 rest)) (λ a.
+    given (second (word_at 1 rest)) (λ b.
+    Ok (a, b))))
+
+-- three values
+abbrev pub three_of : {A B C : Type 0} → (List ℕ → Result A Fault) → (List ℕ → Result B Fault) → (List ℕ → Result C Fault) → List ℕ → Result (A × B × C) Fault
+three_of first second third rest =
+    counted 3 rest (
+    given (first (word_at 0 rest)) (λ a.
+    given (second (word_at 1 rest)) (λ b.
+    given (third (word_at 2 rest)) (λ c.
+    Ok (a, b, c)))))
+
 -- one number
 abbrev pub one_number : List ℕ → Result ℕ Fault
-one_number rest = counted 1 rest (number_of (word_at 0 rest))
+one_number = one_of number_of
 
 -- two numbers
 abbrev pub two_numbers : List ℕ → Result (ℕ × ℕ) Fault
-two_numbers rest =
-    counted 2 rest (
-    given (number_of (word_at 0 rest)) (λ a.
-    given (number_of (word_at 1 rest)) (λ b.
-    Ok (a, b))))
+two_numbers = two_of number_of number_of
 
 -- one amount of dollars
 abbrev pub one_amount : List ℕ → Result Dollars Fault
-one_amount rest = counted 1 rest (dollars_of (word_at 0 rest))
+one_amount = one_of dollars_of
 
 -- a member, its fund and its assessment
 abbrev pub holding_of : List ℕ → Result (ℕ × Dollars × Dollars) Fault
-holding_of rest =
-    counted 3 rest (
-    given (number_of (word_at 0 rest)) (λ member.
-    given (dollars_of (word_at 1 rest)) (λ fund.
-    given (dollars_of (word_at 2 rest)) (λ assessment.
-    Ok (member, fund, assessment)))))
+holding_of = three_of number_of dollars_of dollars_of
 
 -- an enrolment
 abbrev pub enrol_of : List ℕ → Result Call Fault

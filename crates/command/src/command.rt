@@ -5,10 +5,10 @@ ghost use Rattle.std.specs.Prelude.{◌≡◌};
 use crate::fault::Fault;
 use crate::opening::offer;
 use crate::question::Question;
-use crate::reading::{bid, enrol, none, one_amount, one_number, text, top_up, two_numbers};
+use crate::reading::{bid, none, one, three, two};
 use book::calls::Call;
 use share::units::Dollars;
-use words::split_word;
+use words::{split_word, text};
 
 #[derive(Clone, Copy)]
 pub enum Command {
@@ -46,13 +46,27 @@ fn order(name: &str, rest: &[u8]) -> Result<Command, Fault>
     ensures { result ≡ order_of name.now rest.now }
 {
     let call = match name {
-        "house" => return Ok(Command::House(one_amount(rest)?)),
-        "enrol" => enrol(rest)?,
-        "top-up" => top_up(rest)?,
-        "release" => Call::Release(one_number(rest)?),
+        "house" => return Ok(Command::House(one(rest)?)),
+        "enrol" => {
+            let (member, fund, assessment) = three(rest)?;
+            Call::Enrol {
+                member,
+                fund,
+                assessment,
+            }
+        }
+        "top-up" => {
+            let (member, fund, assessment) = three(rest)?;
+            Call::TopUp {
+                member,
+                fund,
+                assessment,
+            }
+        }
+        "release" => Call::Release(one(rest)?),
         "open" => Call::Open(offer(rest)?),
         "excuse" => {
-            let (member, lot) = two_numbers(rest)?;
+            let (member, lot) = two(rest)?;
             Call::Excuse { member, lot }
         }
         "bid" => bid(rest)?,
@@ -60,8 +74,8 @@ fn order(name: &str, rest: &[u8]) -> Result<Command, Fault>
             none(rest)?;
             Call::Close
         }
-        "charge" => Call::Charge(one_amount(rest)?),
-        "recover" => Call::Recover(one_amount(rest)?),
+        "charge" => Call::Charge(one(rest)?),
+        "recover" => Call::Recover(one(rest)?),
         "conclude" => {
             none(rest)?;
             Call::Conclude
@@ -80,27 +94,27 @@ fn question(name: &str, rest: &[u8]) -> Result<Command, Fault>
             none(rest)?;
             Question::Phase
         }
-        "member" => Question::Member(one_number(rest)?),
+        "member" => Question::Member(one(rest)?),
         "requirement" => {
-            let (member, lot) = two_numbers(rest)?;
+            let (member, lot) = two(rest)?;
             Question::Requirement { member, lot }
         }
-        "price" => Question::Price(one_number(rest)?),
+        "price" => Question::Price(one(rest)?),
         "allocation" => {
-            let (lot, entry) = two_numbers(rest)?;
+            let (lot, entry) = two(rest)?;
             Question::Allocation { lot, entry }
         }
         "average" => {
-            let (member, lot) = two_numbers(rest)?;
+            let (member, lot) = two(rest)?;
             Question::Average { member, lot }
         }
         "class" => {
-            let (member, lot) = two_numbers(rest)?;
+            let (member, lot) = two(rest)?;
             Question::Class { member, lot }
         }
-        "seat" => Question::Seat(one_number(rest)?),
+        "seat" => Question::Seat(one(rest)?),
         "bears" => {
-            let (member, seat) = two_numbers(rest)?;
+            let (member, seat) = two(rest)?;
             Question::Bears { member, seat }
         }
         _ => return Err(Fault::NoSuchCommand),

@@ -1,8 +1,11 @@
 // Why a line is no command.
 ghost use Rattle.command.specs.Faults.{reason_of};
-ghost use Rattle.std.specs.Prelude.{◌≡◌};
+ghost use Rattle.std.specs.Prelude.{◌≡◌, Some};
 
-#[derive(Clone, Copy)]
+use std::error::Error;
+use std::fmt;
+
+#[derive(Clone, Copy, PartialEq, Eq, Debug)]
 pub enum Fault {
     NoSuchCommand,
     Count,
@@ -29,3 +32,14 @@ impl Fault {
         }
     }
 }
+
+// By hand, since a derived `Display` promises nothing of what it writes.
+impl fmt::Display for Fault {
+    ghost output = { λ x. Some (reason_of x) };
+
+    fn fmt<W: fmt::Write>(&self, f: &mut fmt::Formatter<W>) -> fmt::Result {
+        f.write_str(self.reason())
+    }
+}
+
+impl Error for Fault {}

@@ -5,7 +5,7 @@ ghost use Rattle.command.specs.Steps.{ReadLot};
 ghost use Rattle.std.specs.Prelude.{◌≡◌, Ok};
 
 use crate::fault::Fault;
-use crate::reading::{number, pri};
+use crate::reading::FromWord;
 use auction::offer::Offer;
 use auction::terms::Terms;
 use words::{count_words, split_word};
@@ -54,9 +54,9 @@ fn first_lot(rest: &[u8]) -> Result<(Terms, &[u8]), Fault>
     let (requirement, rest) = split_word(rest);
     let (range, rest) = split_word(rest);
     let terms = Terms {
-        weight: number(weight)?,
-        requirement: number(requirement)?,
-        pri: pri(range)?,
+        weight: u16::from_word(weight)?,
+        requirement: u16::from_word(requirement)?,
+        pri: u32::from_word(range)?,
     };
     Ok((terms, rest))
 }
