@@ -20,50 +20,37 @@ impl Auction {
     pub fn bids(&self, lot: u16) -> u16
         ensures { result ≡ length (lot_at (listings_of self.now) lot).bids }
     {
-        match self.lot(lot) {
-            Some(lot) => lot.bids().entries().len() as u16,
-            None => 0,
-        }
+        self.lot(lot)
+            .map_or(0, |lot| lot.bids().entries().len() as u16)
     }
 
     // A lot's price; the lot fails where there is none.
     pub fn price(&self, lot: u16) -> Option<Price>
         ensures { result ≡ lot_price (lot_at (listings_of self.now) lot).bids }
     {
-        match self.lot(lot) {
-            Some(lot) => lot.price(),
-            None => None,
-        }
+        self.lot(lot)?.price()
     }
 
     // A member's requirement in a lot.
     pub fn requirement(&self, members: &Roster, member: u16, lot: u16) -> Parts
         ensures { result.0 ≡ requirement_of (places_of members.now) (lot_at (listings_of self.now) lot) member }
     {
-        match self.lot(lot) {
-            Some(lot) => lot.requirement(members, member),
-            None => Parts(0),
-        }
+        self.lot(lot)
+            .map_or(Parts(0), |lot| lot.requirement(members, member))
     }
 
     // What a bid gets of a lot, by its entry number.
     pub fn allocation(&self, lot: u16, entry: u16) -> Parts
         ensures { result.0 ≡ slice_index (allocations (lot_at (listings_of self.now) lot).bids) (entry - 1) }
     {
-        match self.lot(lot) {
-            Some(lot) => lot.allocation(entry),
-            None => Parts(0),
-        }
+        self.lot(lot).map_or(Parts(0), |lot| lot.allocation(entry))
     }
 
     // A member's BP in a lot, where the lot has a price.
     pub fn average(&self, members: &Roster, member: u16, lot: u16) -> Option<Price>
         ensures { result ≡ average_in (places_of members.now) (listings_of self.now) member lot }
     {
-        match self.lot(lot) {
-            Some(lot) => lot.average(members, member),
-            None => None,
-        }
+        self.lot(lot)?.average(members, member)
     }
 
     // A member's class in a lot.
@@ -73,9 +60,7 @@ impl Auction {
         if self.is_silent(members, member) {
             return Some(Class::NonBidding);
         }
-        match self.lot(lot) {
-            Some(lot) => lot.class(lot.price(), lot.earned(members, member)),
-            None => None,
-        }
+        let lot = self.lot(lot)?;
+        lot.class(lot.price(), lot.earned(members, member))
     }
 }

@@ -34,10 +34,8 @@ impl Lot {
     pub(crate) fn new(terms: Terms) -> Result<Lot, Refusal>
         ensures { as_listed (numbered result) ≡ unless (if_so (bad_lot terms) LotTerms) (opened terms) }
     {
-        if terms.weight == 0
-            || terms.requirement < LEAST_REQUIREMENT
-            || terms.requirement > MOST_REQUIREMENT
-        {
+        let requirements = LEAST_REQUIREMENT..=MOST_REQUIREMENT;
+        if terms.weight == 0 || !requirements.contains(&terms.requirement) {
             return Err(Refusal::LotTerms);
         }
         let pri = Pri::new(terms.pri)?;
@@ -75,8 +73,7 @@ impl Lot {
     pub(crate) fn is_excused(&self, member: u16) -> bool
         ensures { result ≡ excused_by_call (listing_of self.now) member }
     {
-        let i = index(member);
-        i < self.excused.len() && self.excused[i]
+        self.excused.get(index(member)).copied().unwrap_or(false)
     }
 
     // Takes a bid in, and answers its entry number.
@@ -85,10 +82,8 @@ impl Lot {
         ensures after { listing_of self.new ≡ left_by (first_nonzero (bid_tests (listing_of self.old) bid)) (listing_of self.old) (entering bid (listing_of self.old)) }
     {
         if self.is_excused(bid.member) {
-            return match self.bids.admits(&bid) {
-                Ok(()) => Err(Refusal::ExcusedByCall),
-                Err(refusal) => Err(refusal),
-            };
+            self.bids.admits(&bid)?;
+            return Err(Refusal::ExcusedByCall);
         }
         self.bids.enter(bid)
     }

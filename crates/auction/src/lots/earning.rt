@@ -74,9 +74,11 @@ impl Lot {
     pub(crate) fn allocation(&self, entry: u16) -> Parts
         ensures { result.0 ≡ slice_index (allocations (listing_of self.now).bids) (entry - 1) }
     {
-        let i = index(entry);
         let allocations = self.bids.allocations();
-        let parts = allocations.parts();
-        if i < parts.len() { parts[i] } else { Parts(0) }
+        allocations
+            .parts()
+            .get(index(entry))
+            .copied()
+            .unwrap_or(Parts(0))
     }
 }

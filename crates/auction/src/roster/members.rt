@@ -3,7 +3,7 @@ ghost use Rattle.std.specs.Prelude.{◌≡◌, ◌≤◌, replicate, None};
 ghost use Rattle.auction.specs.Enrolling.{enrol_tests, top_up_tests, member_tests, member_with, topped_up, put, too_much, less, as_member};
 ghost use Rattle.auction.specs.Places.{places_of};
 ghost use Rattle.auction.specs.Roster.{most_members, most_amount, place, fund_of, assessment_of};
-ghost use Rattle.share.specs.Refusals.{numbered, unless, left_by, first_nonzero};
+ghost use Rattle.share.specs.Refusals.{numbered, unless, left_by, first_nonzero, in_range};
 
 use super::Roster;
 use crate::member::Member;
@@ -14,6 +14,13 @@ use share::units::Dollars;
 pub const MOST_MEMBERS: u16 = 32;
 
 pub const MOST_AMOUNT: u64 = 100_000_000;
+
+// Whether a member can have a number.
+fn is_number(member: u16) -> bool
+    ensures { result ≡ in_range member most_members }
+{
+    (1..=MOST_MEMBERS).contains(&member)
+}
 
 // Whether a fund or an assessment is above its limit.
 fn too_much(fund: u64, assessment: u64) -> bool
@@ -36,12 +43,7 @@ impl Roster {
     pub fn place(&self, member: u16) -> Option<Member>
         ensures { result ≡ place (places_of self.now) member }
     {
-        let i = index(member);
-        if i < self.places.len() {
-            self.places[i].0
-        } else {
-            None
-        }
+        self.places.get(index(member))?.0
     }
 
     // A member's fund and assessment; nothing where there is no member.
@@ -50,13 +52,7 @@ impl Roster {
         ensures assessment { result.assessment.0 ≡ assessment_of (place (places_of self.now) member) }
         ensures limits { (result.fund.0 ≤ most_amount) × (result.assessment.0 ≤ most_amount) }
     {
-        match self.place(member) {
-            Some(member) => member,
-            None => Member {
-                fund: Dollars(0),
-                assessment: Dollars(0),
-            },
-        }
+        self.place(member).unwrap_or_default()
     }
 
     // Puts another entry at a number.
@@ -75,7 +71,7 @@ impl Roster {
     pub fn enrolled(&self, member: u16) -> Result<Member, Refusal>
         ensures { as_member (numbered result) ≡ unless (first_nonzero (member_tests (places_of self.now) member)) (place (places_of self.now) member) }
     {
-        if member < 1 || member > MOST_MEMBERS {
+        if !is_number(member) {
             return Err(Refusal::OutOfRange);
         }
         self.place(member).ok_or(Refusal::NotEnrolled)
@@ -86,7 +82,7 @@ impl Roster {
         ensures answer { numbered result ≡ unless (first_nonzero (enrol_tests (places_of self.old) member fund.0 assessment.0)) tt }
         ensures after { places_of self.new ≡ left_by (first_nonzero (enrol_tests (places_of self.old) member fund.0 assessment.0)) (places_of self.old) (put (places_of self.old) member (member_with fund.0 assessment.0)) }
     {
-        if member < 1 || member > MOST_MEMBERS {
+        if !is_number(member) {
             return Err(Refusal::OutOfRange);
         }
         if self.place(member).is_some() {
