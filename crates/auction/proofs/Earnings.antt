@@ -1,7 +1,7 @@
 -- The parts of an amount by what its member earned in each lot. Assumes nothing.
-use Rattle.std.proofs.Common.{◌≡◌, ℕ, zero, suc, ◌+◌, ◌-◌, ◌<◌, ◌≤◌, false, cond, List, [], ◌∷◌, map, length, get_or, take, None, Option, sym, refl, ap, ◌∙◌, ap₂, arith}
+use Rattle.std.proofs.Common.{◌≡◌, ℕ, zero, suc, ◌+◌, ◌<◌, ◌≤◌, false, cond, List, [], ◌∷◌, map, length, get_or, take, None, Option, sym, refl, ap, ◌∙◌, ap₂, arith}
 use Rattle.std.proofs.lemmas.List.FromFn.{get_or-map-range_with_len}
-use Rattle.std.proofs.lemmas.List.{length-map, get_or-map, take_all}
+use Rattle.std.proofs.lemmas.List.{length-map, take_all}
 use Rattle.share.specs.Rule.{total, share_of, limit}
 use Rattle.auction.specs.Auctions.{listings_of}
 use Rattle.auction.specs.Earning.{earned_of, some_silent, senior_by, subordinate_by, over_earned, tiers_by}
@@ -15,7 +15,7 @@ use Rattle.auction.specs.declared.filling.Tiers.{Tiers}
 use Rattle.auction.specs.declared.lots.Lot.{Lot}
 use Rattle.auction.specs.declared.member.Member.{Member}
 use Rattle.auction.proofs.Tallies.{silent-earned}
-use Rattle.auction.proofs.Listings.{lot-in, length-lots, length-listings}
+use Rattle.auction.proofs.Listings.{length-lots, length-listings}
 use Rattle.auction.proofs.Parts.{total-cons, parts_at, shares-length, shares-at_most}
 
 -- a part of the lot amounts of the first lots
@@ -88,29 +88,23 @@ module _ (a : Auction) (ls : List Lot) (same : map listing_of ls ≡ listings_of
       ap (λ ws. share_of amount ws i) weights-same
       ∙ sym (get_or-map-range_with_len (share_of amount ws) 0 (length ws) i i 0 (omega (arith, h, length-map (listings_of a) (λ (l : Listing). l.terms.weight), length-listings a, length-lots a ls same)) (omega arith))
 
--- the lot at a place
-pub lot-here : (a : Auction) (i : ℕ) (x : Lot) → i < a.count → listing_of (get_or a.lots i x) ≡ get_or (listings_of a) i unlisted
-lot-here a i x h =
-    let e : i ≡ suc i - 1 = omega arith in
-    sym (get_or-map listing_of a.lots i x unlisted (omega (arith, h, a.rooms, a.few))) ∙ lot-in a.lots a.count (suc i) i e h ∙ ap (λ k. get_or (listings_of a) k unlisted) (sym e)
-
 -- where nothing was worked out yet
 abbrev pub no_earning : Earned
 no_earning = record { requirement = record { 0 = 0 }; bp = None }
 
 -- one lot more in the loop over the lots
-module _ (a : Auction) (es : List Earned) (amount i s t x y : ℕ) (same : length es ≡ length (listings_of a)) (h : i < a.count) where
-  step-lot : (part : Listing → Earned → ℕ → ℕ) (n z : ℕ) → n ≡ so_far part (listings_of a) es amount i → z ≡ part (get_or (listings_of a) i unlisted) (get_or es i no_earning) (get_or (lot_amounts (listings_of a) amount) i 0) → n + z ≡ so_far part (listings_of a) es amount (i + 1)
-  step-lot part n z e f = omega (arith, e, f, so_far_more part (listings_of a) es amount same i unlisted no_earning (omega (arith, h, length-listings a)))
+module _ (ls : List Listing) (es : List Earned) (amount i s t x y : ℕ) (same : length es ≡ length ls) (h : i < length ls) where
+  step-lot : (part : Listing → Earned → ℕ → ℕ) (n z : ℕ) → n ≡ so_far part ls es amount i → z ≡ part (get_or ls i unlisted) (get_or es i no_earning) (get_or (lot_amounts ls amount) i 0) → n + z ≡ so_far part ls es amount (i + 1)
+  step-lot part n z e f = omega (arith, e, f, so_far_more part ls es amount same i unlisted no_earning h)
 
-  pub step : s ≡ so_far subordinate_by (listings_of a) es amount i → t ≡ so_far senior_by (listings_of a) es amount i →
-      x ≡ subordinate_by (get_or (listings_of a) i unlisted) (get_or es i no_earning) (get_or (lot_amounts (listings_of a) amount) i 0) →
-      y ≡ senior_by (get_or (listings_of a) i unlisted) (get_or es i no_earning) (get_or (lot_amounts (listings_of a) amount) i 0) →
-      (s + x ≡ so_far subordinate_by (listings_of a) es amount (i + 1)) × (t + y ≡ so_far senior_by (listings_of a) es amount (i + 1)) × (s + x ≤ amount) × (t + y ≤ amount)
+  pub step : s ≡ so_far subordinate_by ls es amount i → t ≡ so_far senior_by ls es amount i →
+      x ≡ subordinate_by (get_or ls i unlisted) (get_or es i no_earning) (get_or (lot_amounts ls amount) i 0) →
+      y ≡ senior_by (get_or ls i unlisted) (get_or es i no_earning) (get_or (lot_amounts ls amount) i 0) →
+      (s + x ≡ so_far subordinate_by ls es amount (i + 1)) × (t + y ≡ so_far senior_by ls es amount (i + 1)) × (s + x ≤ amount) × (t + y ≤ amount)
   step es-is et-is ex-is ey-is =
       let down = step-lot subordinate_by s x es-is ex-is in
       let up = step-lot senior_by t y et-is ey-is in
-      let all = so_far-bounded (listings_of a) es amount (i + 1) in
+      let all = so_far-bounded ls es amount (i + 1) in
       (down, up, omega (arith, down, all), omega (arith, up, all))
 
 -- all of an amount by its tiers, where its member is not Non-bidding

@@ -1,8 +1,6 @@
 -- What all members bring to the pools. Assumes nothing.
-use Rattle.std.proofs.Common.{◌≡◌, ℕ, ◌+◌, ◌<◌, ◌≤◌, List, map, length, take, set, Option, sym, ap, ◌∙◌, arith}
-use Rattle.std.proofs.lemmas.List.FromFn.{length-map-range_with_len, get_or-map-range_with_len}
+use Rattle.std.proofs.Common.{◌≡◌, ℕ, List, map, Option, ap, ◌∙◌, arith}
 use Rattle.std.proofs.lemmas.Simd.{map-map}
-use Rattle.std.proofs.lemmas.List.{take_all}
 use Rattle.auction.specs.Filling.{amount_in, brought_of, WithinLimits}
 use Rattle.auction.specs.Lots.{Listing}
 use Rattle.auction.specs.Roster.{fund_of, assessment_of, numbers, Funded}
@@ -13,24 +11,12 @@ use Rattle.auction.specs.declared.filling.Money.TheVariants.{Fund, Assessment}
 use Rattle.auction.specs.declared.filling.Tier.{Tier}
 use Rattle.auction.specs.declared.filling.Tier.TheVariants.{First, Second, Third}
 use Rattle.auction.specs.declared.member.Member.{Member}
-use Rattle.auction.proofs.Arrays.{fill_more}
 use Rattle.auction.proofs.Parts.{weights-at_most}
 
 module _ (r : List (Option Member)) (ls : List Listing) where
   -- what each member brings
   abbrev all_brought : List Brought
   all_brought = map (brought_of r ls) (numbers r)
-
-  -- one member more
-  pub member-more : (bs : List Brought) (i : ℕ) (b : Brought) → length r ≡ 32 → length bs ≡ 32 → i < 32 → b ≡ brought_of r ls (i + 1) → take i bs ≡ take i all_brought → take (i + 1) (set bs i b) ≡ take (i + 1) all_brought
-  member-more bs i b all room h e so_far =
-      fill_more all_brought bs i b b (omega (arith, room, h)) (omega (arith, all, h, length-map-range_with_len (brought_of r ls) 1 (length r))) so_far
-      (e ∙ sym (get_or-map-range_with_len (brought_of r ls) 1 (length r) i (i + 1) b (omega (arith, all, h)) (omega arith)))
-
-  -- all members
-  pub member-all : (bs : List Brought) (i : ℕ) → length r ≡ 32 → length bs ≡ 32 → 32 ≤ i → take i bs ≡ take i all_brought → bs ≡ all_brought
-  member-all bs i all room h e =
-      sym (take_all i bs (omega (arith, room, h))) ∙ e ∙ take_all i all_brought (omega (arith, all, h, length-map-range_with_len (brought_of r ls) 1 (length r)))
 
   -- the weights of the pools, by their columns
   abbrev six : List ℕ → List ℕ → List ℕ → List ℕ → List ℕ → List ℕ → Weights

@@ -110,3 +110,7 @@ length-listings a = length-first a.lots a.count (omega (arith, a.rooms, a.few))
 -- the same by their listings
 pub length-lots : (a : Auction) (ls : List Lot) → map listing_of ls ≡ listings_of a → length ls ≡ a.count
 length-lots a ls e = sym (length-map ls listing_of) ∙ ap length e ∙ length-listings a
+
+-- an index of their listings is one of the lots
+pub inside-lots : (a : Auction) (ls : List Lot) → map listing_of ls ≡ listings_of a → (i : ℕ) → i < length (listings_of a) → i < length ls
+inside-lots a ls e i h = omega (arith, h, length-lots a ls e, length-listings a)

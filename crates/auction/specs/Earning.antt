@@ -1,5 +1,6 @@
 -- What a member's bids earn it in a lot, as the code holds it. Assumes nothing.
-use Rattle.std.specs.Prelude.{ℕ, ◌+◌, Bool, false, cond, not, ◌&&◌, ◌||◌, List, [], ◌∷◌, is_some, Option, ◌==◌}
+use Rattle.std.specs.Prelude.{ℕ, ◌+◌, Bool, cond, not, ◌&&◌, List, [], ◌∷◌, is_some, Option, ◌==◌}
+use Rattle.std.specs.List.{list_any}
 use Rattle.auction.specs.Classes.{senior_at, subordinate_at}
 use Rattle.auction.specs.Counting.{bp_of}
 use Rattle.auction.specs.Lots.{Listing, price_in}
@@ -19,8 +20,7 @@ says_nothing e = not (is_some e.bp) && not (e.requirement.0 == 0)
 
 -- whether it is so in some lot
 abbrev pub some_silent : List Earned → Bool
-some_silent [] = false
-some_silent (e ∷ es) = says_nothing e || some_silent es
+some_silent es = list_any says_nothing es
 
 -- the senior and the subordinate part of a lot amount by what is earned in the lot
 abbrev pub senior_by : Listing → Earned → ℕ → ℕ

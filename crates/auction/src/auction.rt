@@ -7,11 +7,13 @@ ghost use Rattle.share.specs.Rule.{total};
 use crate::lots::Lot;
 
 pub mod bidding;
+pub(crate) mod cleared;
 pub mod filling;
 pub mod opening;
 pub mod questions;
 
 // Up to four lots, numbered from 1 in the order in which they were opened. Between auctions there is none, so their weights add up to 10,000 or to nothing.
+// An array with a count, and no ArrayVec: a copy of an auction is an ordinary value, and a copy of an ArrayVec is one that may fail.
 #[derive(Clone, Copy)]
 pub struct Auction {
     lots: [Lot; 4],

@@ -1,12 +1,12 @@
 // What a member must bid for in a lot, and what its bids there amount to.
-ghost use Rattle.auction.specs.Earning.{says_nothing};
+ghost use Rattle.auction.specs.Earning.{says_nothing, some_silent};
 ghost use Rattle.std.specs.Prelude.{◌≡◌};
 
 use lot::bid::Price;
 use share::units::Parts;
 
 // A member's requirement in a lot, and its BP there if something counts.
-#[derive(Clone, Copy)]
+#[derive(Clone, Copy, Default)]
 pub struct Earned {
     pub requirement: Parts,
     pub bp: Option<Price>,
@@ -19,4 +19,11 @@ impl Earned {
     {
         self.bp.is_none() && self.requirement.0 != 0
     }
+}
+
+// Whether a member is Non-bidding, by what it earned in each lot.
+pub(crate) fn is_silent(earned: &[Earned]) -> bool
+    ensures { result ≡ some_silent earned.now }
+{
+    earned.iter().any(|e| e.is_silent())
 }

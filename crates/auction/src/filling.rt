@@ -21,7 +21,7 @@ pub enum Tier {
 }
 
 // One amount by the seats that it fills.
-#[derive(Clone, Copy)]
+#[derive(Clone, Copy, Default)]
 pub struct Tiers {
     pub first: Dollars,
     pub second: Dollars,
@@ -29,7 +29,7 @@ pub struct Tiers {
 }
 
 // What a member brings.
-#[derive(Clone, Copy)]
+#[derive(Clone, Copy, Default)]
 pub struct Brought {
     pub fund: Tiers,
     pub assessment: Tiers,

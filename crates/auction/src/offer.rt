@@ -5,6 +5,7 @@ use crate::terms::Terms;
 
 // The lots of an auction as they are handed over: how many, and the terms of the first four.
 // More than four are refused for their number alone, so that the terms of the others are not held; the places of lots that are not handed over hold zeros.
+// The count is no length of the array, since it may be above four.
 #[derive(Clone, Copy)]
 pub struct Offer {
     pub count: u16,

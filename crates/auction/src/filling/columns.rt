@@ -43,10 +43,6 @@ impl Filling {
         ensures value { numbers_of result ≡ column_of money tier self.now }
         ensures len { length result ≡ 32 }
     {
-        let mut weights = [Dollars(0); 32];
-        for (i, row) in self.rows.iter().enumerate() {
-            weights[i] = row.at(money, tier);
-        }
-        weights
+        self.rows.map(|row| row.at(money, tier))
     }
 }

@@ -1,7 +1,7 @@
-use Rattle.std.proofs.Common.{◌≡◌, map, length, take}
-use Rattle.auction.specs.Auctions.{listings_of}
-use Rattle.auction.specs.Lots.{price_in}
+use Rattle.std.proofs.Common.{◌≡◌, map, take}
+use Rattle.auction.specs.Lots.{listing_of, price_in}
+use Rattle.auction.specs.declared.lots.Lot.{Lot}
 use Rattle.auction.proofs.auction.Auction.prices.Given as goal
 
-abbrev pub invariant-loop-i : goal.invariant-loop-i
-invariant-loop-i l = (length l.prices ≡ 4) × (take l.i l.prices ≡ take l.i (map price_in (listings_of l.self)))
+abbrev pub invariant-loop-lot : goal.invariant-loop-lot
+invariant-loop-lot l = l.prices.items ≡ map (λ (lot : Lot). price_in (listing_of lot)) (take l.lot-index l.lot-items)
