@@ -1,6 +1,6 @@
 // Who is a member, and how members come, grow and go.
 ghost use Rattle.std.specs.Prelude.{◌≡◌, ◌≤◌, replicate, None};
-ghost use Rattle.auction.specs.Enrolling.{enrol_tests, top_up_tests, member_tests, member_with, topped_up, put, too_much, less, as_member};
+ghost use Rattle.auction.specs.Enrolling.{enrol_tests, top_up_tests, member_tests, topped_up, put, too_much, less, as_member};
 ghost use Rattle.auction.specs.Places.{places_of};
 ghost use Rattle.auction.specs.Roster.{most_members, most_amount, place, fund_of, assessment_of};
 ghost use Rattle.share.specs.Refusals.{numbered, unless, left_by, first_nonzero, in_range};
@@ -22,11 +22,13 @@ fn is_number(member: u16) -> bool
     (1..=MOST_MEMBERS).contains(&member)
 }
 
-// Whether a fund or an assessment is above its limit.
-fn too_much(fund: u64, assessment: u64) -> bool
-    ensures { result ≡ too_much fund assessment }
-{
-    fund > MOST_AMOUNT || assessment > MOST_AMOUNT
+impl Member {
+    // Whether the fund or the assessment is above its limit.
+    fn is_too_much(&self) -> bool
+        ensures { result ≡ too_much self.now.fund.0 self.now.assessment.0 }
+    {
+        self.fund.0 > MOST_AMOUNT || self.assessment.0 > MOST_AMOUNT
+    }
 }
 
 impl Roster {
@@ -78,9 +80,9 @@ impl Roster {
     }
 
     // Makes a number a member with these amounts.
-    pub fn enrol(&mut self, member: u16, fund: Dollars, assessment: Dollars) -> Result<(), Refusal>
-        ensures answer { numbered result ≡ unless (first_nonzero (enrol_tests (places_of self.old) member fund.0 assessment.0)) tt }
-        ensures after { places_of self.new ≡ left_by (first_nonzero (enrol_tests (places_of self.old) member fund.0 assessment.0)) (places_of self.old) (put (places_of self.old) member (member_with fund.0 assessment.0)) }
+    pub fn enrol(&mut self, member: u16, amounts: Member) -> Result<(), Refusal>
+        ensures answer { numbered result ≡ unless (first_nonzero (enrol_tests (places_of self.old) member amounts.fund.0 amounts.assessment.0)) tt }
+        ensures after { places_of self.new ≡ left_by (first_nonzero (enrol_tests (places_of self.old) member amounts.fund.0 amounts.assessment.0)) (places_of self.old) (put (places_of self.old) member (Some amounts)) }
     {
         if !is_number(member) {
             return Err(Refusal::OutOfRange);
@@ -88,27 +90,27 @@ impl Roster {
         if self.place(member).is_some() {
             return Err(Refusal::AlreadyEnrolled);
         }
-        if too_much(fund.0, assessment.0) {
+        if amounts.is_too_much() {
             return Err(Refusal::OutsideLimits);
         }
-        self.put(member, Some(Member { fund, assessment }));
+        self.put(member, Some(amounts));
         Ok(())
     }
 
     // Adds to a member's fund and assessment.
-    pub fn top_up(&mut self, member: u16, fund: Dollars, assessment: Dollars) -> Result<(), Refusal>
-        ensures answer { numbered result ≡ unless (first_nonzero (top_up_tests (places_of self.old) member fund.0 assessment.0)) tt }
-        ensures after { places_of self.new ≡ left_by (first_nonzero (top_up_tests (places_of self.old) member fund.0 assessment.0)) (places_of self.old) (put (places_of self.old) member (topped_up (place (places_of self.old) member) fund.0 assessment.0)) }
+    pub fn top_up(&mut self, member: u16, amounts: Member) -> Result<(), Refusal>
+        ensures answer { numbered result ≡ unless (first_nonzero (top_up_tests (places_of self.old) member amounts.fund.0 amounts.assessment.0)) tt }
+        ensures after { places_of self.new ≡ left_by (first_nonzero (top_up_tests (places_of self.old) member amounts.fund.0 amounts.assessment.0)) (places_of self.old) (put (places_of self.old) member (topped_up (place (places_of self.old) member) amounts.fund.0 amounts.assessment.0)) }
     {
         let old = self.enrolled(member)?;
-        if too_much(fund.0, assessment.0) {
+        if amounts.is_too_much() {
             return Err(Refusal::OutsideLimits);
         }
         let new = Member {
-            fund: Dollars(old.fund.0 + fund.0),
-            assessment: Dollars(old.assessment.0 + assessment.0),
+            fund: Dollars(old.fund.0 + amounts.fund.0),
+            assessment: Dollars(old.assessment.0 + amounts.assessment.0),
         };
-        if too_much(new.fund.0, new.assessment.0) {
+        if new.is_too_much() {
             return Err(Refusal::OutsideLimits);
         }
         self.put(member, Some(new));
@@ -126,13 +128,13 @@ impl Roster {
     }
 
     // Lowers a member's fund and assessment.
-    pub fn lower(&mut self, member: u16, fund: Dollars, assessment: Dollars)
-        ensures { places_of self.new ≡ put (places_of self.old) member (less (place (places_of self.old) member) fund.0 assessment.0) }
+    pub fn lower(&mut self, member: u16, amounts: Member)
+        ensures { places_of self.new ≡ put (places_of self.old) member (less (place (places_of self.old) member) amounts.fund.0 amounts.assessment.0) }
     {
         if let Some(old) = self.place(member) {
             let new = Member {
-                fund: Dollars(old.fund.0.saturating_sub(fund.0)),
-                assessment: Dollars(old.assessment.0.saturating_sub(assessment.0)),
+                fund: Dollars(old.fund.0.saturating_sub(amounts.fund.0)),
+                assessment: Dollars(old.assessment.0.saturating_sub(amounts.assessment.0)),
             };
             self.put(member, Some(new));
         }
