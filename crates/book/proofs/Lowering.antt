@@ -1,11 +1,10 @@
 -- Members lowered one after another. Assumes nothing.
-use Rattle.std.proofs.Common.{◌≡◌, ℕ, ◌+◌, ◌-◌, ◌<◌, ◌≤◌, List, length, get_or, take, drop, set, None, Option, sym, ap, ◌∙◌, ap₂, arith}
+use Rattle.std.proofs.Common.{◌≡◌, ℕ, ◌+◌, ◌-◌, ◌<◌, ◌≤◌, List, [], ◌∷◌, ◌++◌, length, get_or, take, drop, set, None, Option, sym, ap, ◌∙◌, ap₂, arith}
 use Rattle.std.proofs.lemmas.List.FromFn.{length-map-range_with_len, get_or-map-range_with_len}
-use Rattle.std.proofs.lemmas.List.{get_or-drop, drop-drop, drop-set-lt, take_all}
+use Rattle.std.proofs.lemmas.List.{get_or-drop, drop-drop, drop-set-lt, take_all, take_more, take_more_set}
 use Rattle.auction.specs.Enrolling.{less, put}
 use Rattle.auction.specs.Roster.{place}
 use Rattle.auction.specs.declared.member.Member.{Member}
-use Rattle.auction.proofs.Arrays.{fill_more}
 use Rattle.book.specs.Standing.{fund_bears, assessment_bears, lowered_roster}
 use Rattle.book.specs.State.{State}
 
@@ -29,7 +28,7 @@ module _ (b : State) (all : length b.roster ≡ 32) where
       let is : y ≡ get_or (lowered_roster b) i None =
       ap (λ x. less x f a) (not_yet xs b.roster i back) ∙ ap₂ (less (place b.roster (i + 1))) ef ea
       ∙ sym (get_or-map-range_with_len (λ m. less (place b.roster m) (fund_bears b m) (assessment_bears b m)) 1 (length b.roster) i (i + 1) None (omega (arith, all, h)) (omega arith)) in (
-        ap (λ k. take (i + 1) (set xs k y)) here ∙ fill_more (lowered_roster b) xs i y None (omega (arith, whole, h)) (omega (arith, length-all, h)) front is,
+        ap (λ k. take (i + 1) (set xs k y)) here ∙ take_more_set xs i y (omega (arith, whole, h)) ∙ ap₂ (λ zs z. zs ++ z ∷ []) front is ∙ sym (take_more (lowered_roster b) i None (omega (arith, length-all, h))),
         ap (λ k. drop (i + 1) (set xs k y)) here ∙ drop-set-lt (i + 1) xs i y (omega arith) ∙ sym (drop-drop 1 i xs) ∙ ap (drop 1) back ∙ drop-drop 1 i b.roster,
       )
 

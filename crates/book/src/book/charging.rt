@@ -14,6 +14,7 @@ use crate::answers::{Covering, Returning};
 use crate::phase::Phase;
 use crate::seats::Seats;
 use auction::auction::Auction;
+use auction::member::Member;
 use auction::roster::Roster;
 use auction::roster::members::MOST_MEMBERS;
 use resource::resource::Resource;
@@ -74,7 +75,7 @@ impl<R: Resource> Book<R> {
             let member = i + 1;
             let fund = self.seats.fund_bears(member);
             let assessment = self.seats.assessment_bears(member);
-            members.lower(member, fund, assessment);
+            members.lower(member, Member { fund, assessment });
         }
         members
     }

@@ -22,7 +22,7 @@ impl<R: Resource> Book<R> {
         ensures after { view R.Resource self.new ≡ next (view R.Resource self.old) (Enrol member fund assessment) }
     {
         self.in_phase(Phase::Resting)?;
-        self.members.enrol(member, fund, assessment)
+        self.members.enrol(member, Member { fund, assessment })
     }
 
     // Adds to a member's fund and assessment.
@@ -31,7 +31,7 @@ impl<R: Resource> Book<R> {
         ensures after { view R.Resource self.new ≡ next (view R.Resource self.old) (TopUp member fund assessment) }
     {
         self.in_phase(Phase::Resting)?;
-        self.members.top_up(member, fund, assessment)
+        self.members.top_up(member, Member { fund, assessment })
     }
 
     // Removes a member, and answers what it had.
