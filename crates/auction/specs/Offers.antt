@@ -1,5 +1,6 @@
 -- What an auction is opened with, and when it is declined. Assumes nothing.
-use Rattle.std.specs.Prelude.{ℕ, Bool, false, not, ◌||◌, List, [], ◌∷◌, map, take, ◌==◌, nat_lt}
+use Rattle.std.specs.Prelude.{ℕ, Bool, not, ◌||◌, List, map, take, ◌==◌, nat_lt}
+use Rattle.std.specs.List.{list_any}
 use Rattle.share.specs.Refusals.{in_range}
 use Rattle.share.specs.Rule.{total}
 use Rattle.lot.specs.Class.{pri_refusal}
@@ -20,8 +21,7 @@ bad_lot t = t.weight == 0 || (nat_lt t.requirement 10000 || (nat_lt 15000 t.requ
 
 -- whether the terms of some lot are bad
 abbrev pub some_bad : List Terms → Bool
-some_bad [] = false
-some_bad (t ∷ ts) = bad_lot t || some_bad ts
+some_bad ts = list_any bad_lot ts
 
 -- whether an offer is bad: not 1 to 4 lots, bad terms, or weights that do not add up to 10,000
 abbrev pub bad_offer : Offer → Bool

@@ -3,6 +3,7 @@ ghost use Rattle.std.specs.Prelude.{◌≡◌, ◌+◌, ◌≤◌, [], map, leng
 ghost use Rattle.auction.specs.Auctions.{listings_of, as_listings, listed};
 ghost use Rattle.auction.specs.Lots.{listing_of, opened, lot_at};
 ghost use Rattle.auction.specs.Offers.{terms_of, bad_offer};
+ghost use Rattle.share.specs.Rule.{total};
 ghost use Rattle.share.specs.Refusals.{numbered, unless, if_so};
 ghost use Rattle.share.specs.declared.refusal.Refusal.TheVariants.{LotTerms};
 
@@ -10,19 +11,19 @@ use super::Auction;
 use crate::lots::Lot;
 use crate::offer::Offer;
 use crate::place::index;
+use crate::terms::Terms;
 use share::refusal::Refusal;
 
 pub const MOST_LOTS: u16 = 4;
 
 pub const ALL_WEIGHTS: u32 = 10_000;
 
-// A lot's weight added to those before it.
-fn plus(weights: u32, weight: u16) -> u32
-    requires { weights ≤ 196605 }
-    ensures value { result ≡ weights + weight }
-    ensures bound { result ≤ weights + 65535 }
+// The weights of lots, added up.
+fn weights(terms: &[Terms]) -> u32
+    requires { length terms.now ≤ 4 }
+    ensures { result ≡ total (map (λ t. t.weight) terms.now) }
 {
-    weights + u32::from(weight)
+    terms.iter().map(|lot| u32::from(lot.weight)).sum()
 }
 
 impl Auction {
@@ -40,20 +41,16 @@ impl Auction {
     pub fn open(offer: &Offer) -> Result<Auction, Refusal>
         ensures { as_listings (numbered result) ≡ unless (if_so (bad_offer offer.now) LotTerms) (map opened (terms_of offer.now)) }
     {
-        if offer.count < 1 || offer.count > MOST_LOTS {
+        if !(1..=MOST_LOTS).contains(&offer.count) {
             return Err(Refusal::LotTerms);
         }
         let count = usize::from(offer.count);
+        let terms = &offer.terms[..count];
         let mut lots = [Lot::blank(); 4];
-        let mut weights = 0;
-        for i in 0..count {
-            let Ok(lot) = Lot::new(offer.terms[i]) else {
-                return Err(Refusal::LotTerms);
-            };
-            lots[i] = lot;
-            weights = plus(weights, offer.terms[i].weight);
+        for (i, lot) in terms.iter().enumerate() {
+            lots[i] = Lot::new(*lot)?;
         }
-        if weights != ALL_WEIGHTS {
+        if weights(terms) != ALL_WEIGHTS {
             return Err(Refusal::LotTerms);
         }
         Ok(Auction { lots, count })
@@ -77,11 +74,6 @@ impl Auction {
     pub(crate) fn lot(&self, lot: u16) -> Option<&Lot>
         ensures { listed result ≡ lot_at (listings_of self.now) lot }
     {
-        let i = index(lot);
-        if i < self.count {
-            Some(&self.lots[i])
-        } else {
-            None
-        }
+        self.lots().get(index(lot))
     }
 }
