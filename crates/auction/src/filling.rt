@@ -6,14 +6,14 @@ use share::units::Dollars;
 pub mod columns;
 
 // Which of a member's amounts fills a seat: funds fill seats 1 to 3, assessments seats 5 to 7.
-#[derive(Clone, Copy)]
+#[derive(Clone, Copy, PartialEq, Eq, Debug)]
 pub enum Money {
     Fund,
     Assessment,
 }
 
 // Which part of it: all of a Non-bidding member's, the subordinate parts, or the senior parts.
-#[derive(Clone, Copy)]
+#[derive(Clone, Copy, PartialEq, Eq, Debug)]
 pub enum Tier {
     First,
     Second,
@@ -21,7 +21,7 @@ pub enum Tier {
 }
 
 // One amount by the seats that it fills.
-#[derive(Clone, Copy, Default)]
+#[derive(Clone, Copy, PartialEq, Eq, Default, Debug)]
 pub struct Tiers {
     pub first: Dollars,
     pub second: Dollars,
@@ -29,7 +29,7 @@ pub struct Tiers {
 }
 
 // What a member brings.
-#[derive(Clone, Copy, Default)]
+#[derive(Clone, Copy, PartialEq, Eq, Default, Debug)]
 pub struct Brought {
     pub fund: Tiers,
     pub assessment: Tiers,

@@ -20,9 +20,6 @@ impl Weighted for Place {
     ghost heft = { fund_in };
 
     fn weight(&self) -> u64 {
-        match self.0 {
-            Some(member) => member.fund.0,
-            None => 0,
-        }
+        self.0.map_or(0, |member| member.fund.0)
     }
 }

@@ -8,6 +8,7 @@ pub mod members;
 pub mod requirements;
 
 // A place for each member number, 1 to 32. No fund and no assessment is above its limit.
+// The places are read by clauses as a list, with no model that hides the fields: who holds a roster proves by its ghost fields that it has 32 places and what they hold at most.
 #[derive(Clone, Copy)]
 pub struct Roster {
     places: [Place; 32],

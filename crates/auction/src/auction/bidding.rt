@@ -10,6 +10,8 @@ use crate::place::index;
 use lot::bid::Bid;
 use share::refusal::Refusal;
 
+// The two functions on a slice stay: for a `&mut self` method that is called on `self.lots[i]` itself, in a struct with ghost fields, the checker builds no proof.
+
 // Excuses a member from the lot at a place.
 fn excuse_from(lots: &mut [Lot], i: usize, member: u16)
     requires { i < length lots.old }

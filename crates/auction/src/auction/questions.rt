@@ -1,4 +1,5 @@
 // What is asked about the lots of an auction. A number above the last is answered as of a lot without bids, and 0 as 1; who asks refuses both first.
+// The roster and a member's number stay two parameters: a struct of both would be taken apart in each clause, and made for each question by the book, which holds the roster.
 ghost use Rattle.std.specs.Prelude.{◌≡◌, ◌-◌, length, slice_index};
 ghost use Rattle.auction.specs.Auctions.{listings_of};
 ghost use Rattle.auction.specs.Classes.{class_in, average_in};

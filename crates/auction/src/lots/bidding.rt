@@ -60,6 +60,7 @@ impl Lot {
     }
 
     // Makes a member's requirement 0.
+    // A test and an index: of the element that `get_mut` of an array lends, a proof learns nothing.
     pub(crate) fn excuse(&mut self, member: u16)
         ensures { listing_of self.new ≡ excusing member (listing_of self.old) }
     {

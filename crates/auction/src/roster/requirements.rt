@@ -15,6 +15,7 @@ impl Roster {
         ensures value { result.0 ≡ share_of parts (funds (places_of self.now)) (member - 1) }
         ensures bound { result.0 ≤ parts }
     {
+        // No `get`: the rule that shares over the places asks for the index, and not for who is there.
         let i = index(member);
         if i < self.places.len() {
             Parts(share(u64::from(parts), &self.places, i) as u32)
