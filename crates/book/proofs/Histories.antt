@@ -1,12 +1,13 @@
 -- The law over whole lives of books of the code. Assumes nothing.
-use Rattle.std.proofs.Common.{◌≡◌, ℕ, zero, suc, ◌+◌, ◌-◌, ◌<◌, ◌≤◌, min, Bool, true, false, cond, List, [], ◌∷◌, get_or, replicate, None, Option, sym, refl, ap, ◌∙◌, subst, arith}
+use Rattle.std.proofs.Common.{◌≡◌, ℕ, zero, suc, ◌+◌, ◌-◌, ◌<◌, ◌≤◌, min, Bool, true, false, cond, List, [], ◌∷◌, get_or, replicate, None, Ok, Option, Result, sym, refl, ap, ◌∙◌, subst, arith}
 use Rattle.share.specs.Rule.{total}
 use Rattle.resource.specs.declared.resource.Resource.{Ghosts}
 use Rattle.auction.specs.Lots.{Listing, all_fail}
 use Rattle.auction.specs.Roster.{fund_of, assessment_of}
 use Rattle.auction.specs.Weights.{fill}
 use Rattle.auction.specs.declared.member.Member.{Member}
-use Rattle.book.specs.Calls.{told}
+use Rattle.share.specs.Refusals.{numbered}
+use Rattle.share.specs.declared.refusal.Refusal.{Refusal}
 use Rattle.book.specs.Law.{Alike, ByLossAlone, Law}
 use Rattle.book.specs.Lived.{Lived, new, lived, Since, there, then}
 use Rattle.book.specs.Money.{free}
@@ -75,8 +76,8 @@ loss-falls n x = omega arith
 
 module _ (r : List (Option Member)) (ls : List Listing) (c : ℕ) (e : Fit r) (w : Listed ls) where
   -- an accepted call in Charging that does not end it
-  moves : (n : ℕ) → n ≤ total (capacities_of (fill r ls) c) → (k : Call) → declined (loss_at r ls c n) k ≡ 0 → concludes (reply (loss_at r ls c n) k) ≡ 0 →
-      Moved r ls c n (covered_by (reply (loss_at r ls c n) k)) (returned_by (reply (loss_at r ls c n) k)) (after (loss_at r ls c n) k)
+  moves : (n : ℕ) → n ≤ total (capacities_of (fill r ls) c) → (k : Call) → declined (loss_at r ls c n) k ≡ 0 → concludes (Ok (reply (loss_at r ls c n) k)) ≡ 0 →
+      Moved r ls c n (covered_by (Ok (reply (loss_at r ls c n) k))) (returned_by (Ok (reply (loss_at r ls c n) k))) (after (loss_at r ls c n) k)
   moves n fits (call.Enrol m f a) ok on = absurd (omega arith)
   moves n fits (call.TopUp m f a) ok on = absurd (omega arith)
   moves n fits (call.Release m) ok on = absurd (omega arith)
@@ -94,7 +95,7 @@ module _ (r : List (Option Member)) (ls : List Listing) (c : ℕ) (e : Fit r) (w
   moves n fits call.Conclude ok on = absurd (omega arith)
 
   -- one call on a book in Charging
-  moved_by : (n : ℕ) → n ≤ total (capacities_of (fill r ls) c) → (k : Call) (a : Answer) (d : State) → told a ≡ answer (loss_at r ls c n) k → d ≡ next (loss_at r ls c n) k → concludes a ≡ 0 →
+  moved_by : (n : ℕ) → n ≤ total (capacities_of (fill r ls) c) → (k : Call) (a : Result Answer Refusal) (d : State) → numbered a ≡ answer (loss_at r ls c n) k → d ≡ next (loss_at r ls c n) k → concludes a ≡ 0 →
       Moved r ls c n (covered_by a) (returned_by a) d
   moved_by n fits k a d said moved = either_way (loss_at r ls c n) k a d said moved (λ a d. concludes a ≡ 0 → Moved r ls c n (covered_by a) (returned_by a) d)
       (λ _ _. record { loss = n; is = refl; net = refl; fits = fits }) (moves n fits k)
@@ -105,7 +106,7 @@ module _ (r : List (Option Member)) (ls : List Listing) (c : ℕ) (e : Fit r) (w
     since first there on = record { loss = 0; is = first; net = refl; fits = omega arith }
     since first (then d b k a h before does) on =
         let old = since first before (omega arith) in
-        let said : told a ≡ answer (loss_at r ls c old.loss) k = does.answered ∙ ap (λ s. answer s k) old.is in
+        let said : numbered a ≡ answer (loss_at r ls c old.loss) k = does.answered ∙ ap (λ s. answer s k) old.is in
         let moved : view g b ≡ next (loss_at r ls c old.loss) k = does.moved ∙ ap (λ s. next s k) old.is in
         let one = moved_by old.loss old.fits k a (view g b) said moved (omega arith) in
         record { loss = one.loss; is = one.is; net = omega (arith, one.net, old.net); fits = one.fits }

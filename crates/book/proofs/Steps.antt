@@ -1,10 +1,10 @@
 -- One call: the books that come about have one of three shapes, and each call keeps the shape and the money. Assumes nothing.
-use Rattle.std.proofs.Common.{◌≡◌, ℕ, zero, suc, ◌+◌, ◌-◌, ◌<◌, ◌≤◌, min, Bool, true, false, cond, not, ◌||◌, eqb, List, [], ◌∷◌, map, length, get_or, set, is_some, Some, None, Ok, Err, Option, sym, refl, ap, ◌∙◌, subst, inl, inr, arith}
+use Rattle.std.proofs.Common.{◌≡◌, ℕ, zero, suc, ◌+◌, ◌-◌, ◌<◌, ◌≤◌, min, Bool, true, false, cond, not, ◌||◌, eqb, List, [], ◌∷◌, map, length, get_or, set, is_some, Some, None, Ok, Err, Option, Result, sym, refl, ap, ◌∙◌, subst, inl, inr, arith}
 use Rattle.std.proofs.lemmas.List.FromFn.{get_or-map-range_with_len}
 use Rattle.std.proofs.lemmas.List.{length-set, length-map, length-take, get_or_past}
 use Rattle.std.proofs.lemmas.Bool.{cases_lt}
 use Rattle.std.proofs.lemmas.Bool.Decides.{nat_tests}
-use Rattle.share.specs.Refusals.{unless, left_by, if_so, first_nonzero, in_range}
+use Rattle.share.specs.Refusals.{numbered, unless, left_by, if_so, first_nonzero, in_range}
 use Rattle.share.specs.Rule.{total}
 use Rattle.share.specs.declared.refusal.Refusal.{Refusal}
 use Rattle.share.specs.declared.refusal.Refusal.TheVariants.{OutOfRange, NotEnrolled, AlreadyEnrolled, OutsideLimits, LotTerms}
@@ -18,7 +18,7 @@ use Rattle.auction.specs.declared.member.Member.{Member}
 use Rattle.auction.specs.declared.offer.Offer.{Offer}
 use Rattle.auction.specs.declared.terms.Terms.{Terms}
 use Rattle.auction.proofs.Funds.{funded-set}
-use Rattle.book.specs.Calls.{told, bid_of}
+use Rattle.book.specs.Calls.{bid_of}
 use Rattle.book.specs.Money.{free}
 use Rattle.book.specs.Next.{all_standing, covers, after, reply, answer, next}
 use Rattle.book.specs.Refusals.{declined}
@@ -27,6 +27,7 @@ use Rattle.book.specs.Standing.{capacities_of, fund_bears, assessment_bears, low
 use Rattle.book.specs.State.{State, still}
 use Rattle.book.specs.declared.answers.Answer.{Answer}
 use Rattle.book.specs.declared.answers.Answer.TheVariants as ans
+use Rattle.book.specs.declared.answers.Closing.{Closing}
 use Rattle.book.specs.declared.calls.Call.{Call}
 use Rattle.book.specs.declared.calls.Call.TheVariants as call
 use Rattle.book.specs.declared.phase.Phase.{Phase}
@@ -106,39 +107,27 @@ pub data Sound : State → Type 0 where
   at_charge : (r : List (Option Member)) (ls : List Listing) (c n : ℕ) → Fit r → Listed ls → n ≤ total (capacities_of (fill r ls) c) → Sound (loss_at r ls c n)
 
 -- what one call keeps
-pub record Kept (b : State) (k : Call) (a : Answer) (d : State) : Type 0 where
+pub record Kept (b : State) (k : Call) (a : Result Answer Refusal) (d : State) : Type 0 where
   pub sound : Sound d
   pub money : free b + paid_in_by k a + returned_by a ≡ paid_out_by a + covered_by a + free d
 
 -- an answer that is no refusal, and one that is
-told-ok : (a x : Answer) → told a ≡ Ok x → a ≡ x
-told-ok (ans.Refused e) x h = let z : ◌≡◌ {A = ℕ} 0 1 = cc in absurd (omega arith)
-told-ok ans.Done x h = cc
-told-ok (ans.Entry e) x h = cc
-told-ok (ans.Released f a) x h = cc
-told-ok (ans.Closed l c) x h = cc
-told-ok (ans.Covered y z) x h = cc
-told-ok (ans.Returned y z) x h = cc
-told-ok (ans.Concluded n) x h = cc
+numbered-ok : (a : Result Answer Refusal) (x : Answer) → numbered a ≡ Ok x → a ≡ Ok x
+numbered-ok (Ok y) x h = cc
+numbered-ok (Err e) x h = let z : ◌≡◌ {A = ℕ} 0 1 = cc in absurd (omega arith)
 
-told-err : (a : Answer) (n : ℕ) → told a ≡ Err n → (P : Answer → Type 0) → ((e : Refusal) → P (ans.Refused e)) → P a
-told-err (ans.Refused e) n h P each = each e
-told-err ans.Done n h P each = let z : ◌≡◌ {A = ℕ} 0 1 = cc in absurd (omega arith)
-told-err (ans.Entry e) n h P each = let z : ◌≡◌ {A = ℕ} 0 1 = cc in absurd (omega arith)
-told-err (ans.Released f a) n h P each = let z : ◌≡◌ {A = ℕ} 0 1 = cc in absurd (omega arith)
-told-err (ans.Closed l c) n h P each = let z : ◌≡◌ {A = ℕ} 0 1 = cc in absurd (omega arith)
-told-err (ans.Covered y x) n h P each = let z : ◌≡◌ {A = ℕ} 0 1 = cc in absurd (omega arith)
-told-err (ans.Returned y x) n h P each = let z : ◌≡◌ {A = ℕ} 0 1 = cc in absurd (omega arith)
-told-err (ans.Concluded x) n h P each = let z : ◌≡◌ {A = ℕ} 0 1 = cc in absurd (omega arith)
+numbered-err : (a : Result Answer Refusal) (n : ℕ) → numbered a ≡ Err n → (P : Result Answer Refusal → Type 0) → ((e : Refusal) → P (Err e)) → P a
+numbered-err (Ok y) n h P each = let z : ◌≡◌ {A = ℕ} 0 1 = cc in absurd (omega arith)
+numbered-err (Err e) n h P each = each e
 
 -- what holds of every refusal and of an acceptance holds of the call
-pub either_way : (b : State) (k : Call) (a : Answer) (d : State) → told a ≡ answer b k → d ≡ next b k → (P : Answer → State → Type 0) →
-    ((e : Refusal) → P (ans.Refused e) b) → (declined b k ≡ 0 → P (reply b k) (after b k)) → P a d
+pub either_way : (b : State) (k : Call) (a : Result Answer Refusal) (d : State) → numbered a ≡ answer b k → d ≡ next b k → (P : Result Answer Refusal → State → Type 0) →
+    ((e : Refusal) → P (Err e) b) → (declined b k ≡ 0 → P (Ok (reply b k)) (after b k)) → P a d
 either_way b k a d said moved P refuses accepts = go (declined b k) refl said moved
   where
-    go : (n : ℕ) → declined b k ≡ n → told a ≡ unless n (reply b k) → d ≡ left_by n b (after b k) → P a d
-    go zero e s m = subst (P a) (sym m) (subst (λ x. P x (after b k)) (sym (told-ok a (reply b k) s)) (accepts e))
-    go (suc n) e s m = subst (P a) (sym m) (told-err a (suc n) s (λ x. P x b) refuses)
+    go : (n : ℕ) → declined b k ≡ n → numbered a ≡ unless n (reply b k) → d ≡ left_by n b (after b k) → P a d
+    go zero e s m = subst (P a) (sym m) (subst (λ x. P x (after b k)) (sym (numbered-ok a (reply b k) s)) (accepts e))
+    go (suc n) e s m = subst (P a) (sym m) (numbered-err a (suc n) s (λ x. P x b) refuses)
 
 -- where no refusal is among some, none is the first of them
 first-none : (n : ℕ) (ns : List ℕ) → first_nonzero (n ∷ ns) ≡ 0 → (n ≡ 0) × (first_nonzero ns ≡ 0)
@@ -166,7 +155,7 @@ all-within : (f a g b : ℕ) → ◌≡◌ {A = ℕ} (if_so (too_much f a || too
 all-within f a g b h = grind (arith, nat_tests)
 
 abbrev Steps : State → Call → Type 0
-Steps b k = declined b k ≡ 0 → Kept b k (reply b k) (after b k)
+Steps b k = declined b k ≡ 0 → Kept b k (Ok (reply b k)) (after b k)
 
 module _ (r : List (Option Member)) (c : ℕ) (e : Fit r) where
   seat-taken : (m : ℕ) (x : Option Member) → fund_of x ≤ most_amount → assessment_of x ≤ most_amount → Sound (still Resting (put r m x) [] c)
@@ -222,9 +211,9 @@ conclude-money : (left c t new : ℕ) → new ≡ left + (c - t) → left + (c -
 conclude-money left c t new e = omega arith
 
 module _ (r : List (Option Member)) (ls : List Listing) (c : ℕ) (e : Fit r) (w : Listed ls) where
-  shut : (v : Bool) (x : ℕ) (y : Dollars) → Kept (still Bidding r ls c) call.Close (ans.Closed x y) (cond v (still Resting r [] c) (loss_at r ls c 0))
-  shut true x y = record { sound = at_rest r c e; money = omega (arith, unmoved Bidding Resting r ls [] c) }
-  shut false x y = record { sound = at_charge r ls c 0 e w (omega arith); money = omega (arith, free-still Bidding r ls c, free-at_loss r ls c 0 (omega arith)) }
+  shut : (v : Bool) (x : Closing) → Kept (still Bidding r ls c) call.Close (Ok (ans.Closed x)) (cond v (still Resting r [] c) (loss_at r ls c 0))
+  shut true x = record { sound = at_rest r c e; money = omega (arith, unmoved Bidding Resting r ls [] c) }
+  shut false x = record { sound = at_charge r ls c 0 e w (omega arith); money = omega (arith, free-still Bidding r ls c, free-at_loss r ls c 0 (omega arith)) }
 
   module _ (n : ℕ) (h : n ≤ total (capacities_of (fill r ls) c)) where
     -- in Charging what stands is the net loss
@@ -261,7 +250,7 @@ module _ (r : List (Option Member)) (ls : List Listing) (c : ℕ) (e : Fit r) (w
           money = conclude-money _ c b.standing (free (still Resting (lowered_roster b) [] (c - b.standing))) (free-still Resting (lowered_roster b) [] (c - b.standing) ∙ ap (λ x. x + (c - b.standing)) (amounts-lowered b));
         }
 
-  relisted : (p : Phase) (ks : List Listing) (k : Call) (a : Answer) → paid_in_by k a ≡ 0 → returned_by a ≡ 0 → paid_out_by a ≡ 0 → covered_by a ≡ 0 →
+  relisted : (p : Phase) (ks : List Listing) (k : Call) (a : Result Answer Refusal) → paid_in_by k a ≡ 0 → returned_by a ≡ 0 → paid_out_by a ≡ 0 → covered_by a ≡ 0 →
       Kept (still p r ks c) k a (still Bidding r ls c)
   relisted p ks k a i j l m = record { sound = at_bids r ls c e w; money = omega (arith, unmoved p Bidding r ks ls c) }
 
@@ -282,7 +271,7 @@ accepted b (at_bids r ls c e w) (call.Release m) ok = absurd (omega arith)
 accepted b (at_bids r ls c e w) (call.Open o) ok = absurd (omega arith)
 accepted b (at_bids r ls c e w) (call.Excuse m l) ok = relisted r _ c e (listed-with (excusing m) (λ _. refl) ls l w) Bidding ls (call.Excuse m l) _ refl refl refl refl
 accepted b (at_bids r ls c e w) (call.Bid m l t x p) ok = relisted r _ c e (listed-with (entering (bid_of m t x p)) (λ _. refl) ls l w) Bidding ls (call.Bid m l t x p) _ refl refl refl refl
-accepted b (at_bids r ls c e w) call.Close ok = shut r ls c e w (all_fail ls) _ _
+accepted b (at_bids r ls c e w) call.Close ok = shut r ls c e w (all_fail ls) _
 accepted b (at_bids r ls c e w) (call.Charge x) ok = absurd (omega arith)
 accepted b (at_bids r ls c e w) (call.Recover x) ok = absurd (omega arith)
 accepted b (at_bids r ls c e w) call.Conclude ok = absurd (omega arith)
@@ -298,5 +287,5 @@ accepted b (at_charge r ls c n e w h) (call.Recover x) ok = recovered r ls c e w
 accepted b (at_charge r ls c n e w h) call.Conclude ok = ended r ls c e w n h ok
 
 -- one call with the answer and the effect that the rules give
-pub step : (b : State) (k : Call) (a : Answer) (d : State) → told a ≡ answer b k → d ≡ next b k → Sound b → Kept b k a d
+pub step : (b : State) (k : Call) (a : Result Answer Refusal) (d : State) → numbered a ≡ answer b k → d ≡ next b k → Sound b → Kept b k a d
 step b k a d said moved s = either_way b k a d said moved (Kept b k) (λ _. record { sound = s; money = omega arith }) (accepted b s k)

@@ -1,16 +1,11 @@
 -- The calls: the phase that each belongs to, and their answers by number. Assumes nothing.
 use Rattle.std.specs.Prelude.{ℕ, Bool, ℤ, Ok, Err, Result, ◌==◌}
-use Rattle.share.specs.Refusals.{number}
 use Rattle.share.specs.declared.units.Dollars.{Dollars}
 use Rattle.share.specs.declared.units.Parts.{Parts}
 use Rattle.lot.specs.declared.bid.Bid.{Bid}
 use Rattle.lot.specs.declared.bid.Kind.{Kind}
-use Rattle.auction.specs.declared.member.Member.{Member}
 use Rattle.book.specs.declared.answers.Answer.{Answer}
-use Rattle.book.specs.declared.answers.Answer.TheVariants.{Refused, Done, Entry, Released, Closed, Covered, Returned, Concluded}
-use Rattle.book.specs.declared.answers.Closing.{Closing}
-use Rattle.book.specs.declared.answers.Covering.{Covering}
-use Rattle.book.specs.declared.answers.Returning.{Returning}
+use Rattle.book.specs.declared.answers.Answer.TheVariants.{Done}
 use Rattle.book.specs.declared.calls.Call.{Call}
 use Rattle.book.specs.declared.calls.Call.TheVariants as call
 use Rattle.book.specs.declared.phase.Phase.{Phase}
@@ -50,40 +45,11 @@ same_phase p q = rank p == rank q
 abbrev pub bid_of : ℕ → Kind → ℕ → ℤ → Bid
 bid_of m k n p = record { member = m; kind = k; size = parts n; price = record { 0 = p } }
 
--- an answer with its refusal by number
-abbrev pub told : Answer → Result Answer ℕ
-told (Refused e) = Err (number e)
-told Done = Ok Done
-told (Entry e) = Ok (Entry e)
-told (Released f a) = Ok (Released f a)
-told (Closed l c) = Ok (Closed l c)
-told (Covered x y) = Ok (Covered x y)
-told (Returned x y) = Ok (Returned x y)
-told (Concluded n) = Ok (Concluded n)
-
 -- what a call answers, made into an answer
 abbrev pub said : {T : Type 0} → (T → Answer) → Result T ℕ → Result Answer ℕ
 said f (Ok x) = Ok (f x)
 said f (Err n) = Err n
 
--- the answer of each shape of call
+-- the answer of a call that has nothing more to say
 abbrev pub done : Unit {0} → Answer
 done x = Done
-
-abbrev pub releasing : Member → Answer
-releasing m = Released m.fund m.assessment
-
-abbrev pub entering_as : ℕ → Answer
-entering_as e = Entry e
-
-abbrev pub closing : Closing → Answer
-closing c = Closed c.failed c.capacity
-
-abbrev pub covering : Covering → Answer
-covering c = Covered c.covered c.uncovered
-
-abbrev pub returning : Returning → Answer
-returning r = Returned r.returned r.surplus
-
-abbrev pub concluding : Dollars → Answer
-concluding n = Concluded n

@@ -48,13 +48,13 @@ abbrev pub entered_as : ℕ → Result Answer ℕ
 entered_as n = Ok (ans.Entry n)
 
 abbrev pub paid : ℕ → ℕ → Result Answer ℕ
-paid f a = Ok (ans.Released (dollars f) (dollars a))
+paid f a = Ok (ans.Released (record { fund = dollars f; assessment = dollars a }))
 
 abbrev pub covering : ℕ → ℕ → Result Answer ℕ
-covering x y = Ok (ans.Covered (dollars x) (dollars y))
+covering x y = Ok (ans.Covered (record { covered = dollars x; uncovered = dollars y }))
 
 abbrev pub returning : ℕ → ℕ → Result Answer ℕ
-returning x y = Ok (ans.Returned (dollars x) (dollars y))
+returning x y = Ok (ans.Returned (record { returned = dollars x; surplus = dollars y }))
 
 -- calls by their numbers
 abbrev pub enrolling : ℕ → ℕ → ℕ → Call
@@ -117,7 +117,7 @@ pub record Figures : Type 0 where
   -- a whole life, its seats and its end
   pub life : answers (made 4) a_life ≡
       done ∷ done ∷ done ∷ done ∷ done ∷ entered_as 1 ∷ done ∷ done ∷ entered_as 1 ∷ Err 8 ∷ entered_as 2 ∷ entered_as 2 ∷
-      Ok (ans.Closed 1 (dollars 123)) ∷ covering 110 0 ∷ returning 2 0 ∷ []
+      Ok (ans.Closed (record { failed = 1; capacity = dollars 123 })) ∷ covering 110 0 ∷ returning 2 0 ∷ []
   pub its_seats : (capacities lived_on ≡ 30 ∷ 0 ∷ 75 ∷ 4 ∷ 9 ∷ 0 ∷ 5 ∷ []) × (standings lived_on ≡ 30 ∷ 0 ∷ 75 ∷ 3 ∷ 0 ∷ 0 ∷ 0 ∷ [])
   pub its_end : answers lived_on (call.Conclude ∷ call.Release 1 ∷ call.Release 2 ∷ call.Release 3 ∷ call.Release 3 ∷ []) ≡
       Ok (ans.Concluded (dollars 108)) ∷ paid 50 7 ∷ paid 25 5 ∷ paid 0 9 ∷ Err 3 ∷ []

@@ -24,7 +24,7 @@ opening_two t u = call.Open (record { count = 2; terms = t ∷ u ∷ no_terms �
 
 -- answers of a close and a conclude
 abbrev pub closing : ℕ → ℕ → Result Answer ℕ
-closing k c = Ok (ans.Closed k (dollars c))
+closing k c = Ok (ans.Closed (record { failed = k; capacity = dollars c }))
 
 abbrev pub concluding : ℕ → Result Answer ℕ
 concluding n = Ok (ans.Concluded (dollars n))

@@ -64,13 +64,13 @@ after b call.Conclude = still Resting (lowered_roster b) [] (b.capacity - b.stan
 abbrev pub reply : State → Call → Answer
 reply b (call.Enrol m f a) = Done
 reply b (call.TopUp m f a) = Done
-reply b (call.Release m) = Released (dollars (fund_of (place b.roster m))) (dollars (assessment_of (place b.roster m)))
+reply b (call.Release m) = Released (record { fund = dollars (fund_of (place b.roster m)); assessment = dollars (assessment_of (place b.roster m)) })
 reply b (call.Open o) = Done
 reply b (call.Excuse m l) = Done
 reply b (call.Bid m l k n p) = Entry (length (lot_at b.lots l).bids + 1)
-reply b call.Close = Closed (failed b.lots) (dollars (cond (all_fail b.lots) 0 (total (capacities (filled b)))))
-reply b (call.Charge n) = Covered (dollars (covers b n.0)) (dollars (n.0 - covers b n.0))
-reply b (call.Recover n) = Returned (dollars (gives_back b n.0)) (dollars (n.0 - gives_back b n.0))
+reply b call.Close = Closed (record { failed = failed b.lots; capacity = dollars (cond (all_fail b.lots) 0 (total (capacities (filled b)))) })
+reply b (call.Charge n) = Covered (record { covered = dollars (covers b n.0); uncovered = dollars (n.0 - covers b n.0) })
+reply b (call.Recover n) = Returned (record { returned = dollars (gives_back b n.0); surplus = dollars (n.0 - gives_back b n.0) })
 reply b call.Conclude = Concluded (dollars b.loss)
 
 -- what a call on a book answers, a refusal by its number

@@ -1,5 +1,6 @@
 -- Histories: calls with their answers, the newest first, and the money that they moved. Assumes nothing.
-use Rattle.std.specs.Prelude.{ℕ, ◌+◌, List, [], ◌∷◌, map}
+use Rattle.std.specs.Prelude.{ℕ, ◌+◌, List, [], ◌∷◌, map, Ok, Err, Result}
+use Rattle.share.specs.declared.refusal.Refusal.{Refusal}
 use Rattle.book.specs.declared.answers.Answer.{Answer}
 use Rattle.book.specs.declared.answers.Answer.TheVariants as ans
 use Rattle.book.specs.declared.calls.Call.{Call}
@@ -8,14 +9,14 @@ use Rattle.book.specs.declared.calls.Call.TheVariants as call
 -- a call with what it answered
 pub record Entry : Type 0 where
   pub called : Call
-  pub replied : Answer
+  pub replied : Result Answer Refusal
 
 -- a call noted with what it answered
-abbrev pub noted : Call → Answer → Entry
+abbrev pub noted : Call → Result Answer Refusal → Entry
 noted k a = record { called = k; replied = a }
 
 -- a history with more calls and their answers, the first of them first
-abbrev pub added : List Entry → List Call → List Answer → List Entry
+abbrev pub added : List Entry → List Call → List (Result Answer Refusal) → List Entry
 added h [] rs = h
 added h (k ∷ ks) [] = h
 added h (k ∷ ks) (a ∷ rs) = added (noted k a ∷ h) ks rs
@@ -25,15 +26,9 @@ abbrev pub calls : List Entry → List Call
 calls h = map (λ e. e.called) h
 
 -- an amount if an answer is no refusal
-abbrev pub if_accepted : Answer → ℕ → ℕ
-if_accepted (ans.Refused e) x = 0
-if_accepted ans.Done x = x
-if_accepted (ans.Entry e) x = x
-if_accepted (ans.Released f a) x = x
-if_accepted (ans.Closed l c) x = x
-if_accepted (ans.Covered y z) x = x
-if_accepted (ans.Returned y z) x = x
-if_accepted (ans.Concluded n) x = x
+abbrev pub if_accepted : Result Answer Refusal → ℕ → ℕ
+if_accepted (Err e) x = 0
+if_accepted (Ok a) x = x
 
 -- the amounts that a call hands in
 abbrev pub handed_in : Call → ℕ
@@ -49,55 +44,55 @@ handed_in (call.Recover n) = 0
 handed_in call.Conclude = 0
 
 -- what a call paid in by its answer
-abbrev pub paid_in_by : Call → Answer → ℕ
+abbrev pub paid_in_by : Call → Result Answer Refusal → ℕ
 paid_in_by k a = if_accepted a (handed_in k)
 
 -- what an answer paid out
-abbrev pub paid_out_by : Answer → ℕ
-paid_out_by (ans.Refused e) = 0
-paid_out_by ans.Done = 0
-paid_out_by (ans.Entry e) = 0
-paid_out_by (ans.Released f a) = f.0 + a.0
-paid_out_by (ans.Closed l c) = 0
-paid_out_by (ans.Covered x y) = 0
-paid_out_by (ans.Returned x y) = 0
-paid_out_by (ans.Concluded n) = 0
+abbrev pub paid_out_by : Result Answer Refusal → ℕ
+paid_out_by (Err e) = 0
+paid_out_by (Ok ans.Done) = 0
+paid_out_by (Ok (ans.Entry e)) = 0
+paid_out_by (Ok (ans.Released m)) = m.fund.0 + m.assessment.0
+paid_out_by (Ok (ans.Closed c)) = 0
+paid_out_by (Ok (ans.Covered c)) = 0
+paid_out_by (Ok (ans.Returned r)) = 0
+paid_out_by (Ok (ans.Concluded n)) = 0
 
 -- what an answer covered
-abbrev pub covered_by : Answer → ℕ
-covered_by (ans.Refused e) = 0
-covered_by ans.Done = 0
-covered_by (ans.Entry e) = 0
-covered_by (ans.Released f a) = 0
-covered_by (ans.Closed l c) = 0
-covered_by (ans.Covered x y) = x.0
-covered_by (ans.Returned x y) = 0
-covered_by (ans.Concluded n) = 0
+abbrev pub covered_by : Result Answer Refusal → ℕ
+covered_by (Err e) = 0
+covered_by (Ok ans.Done) = 0
+covered_by (Ok (ans.Entry e)) = 0
+covered_by (Ok (ans.Released m)) = 0
+covered_by (Ok (ans.Closed c)) = 0
+covered_by (Ok (ans.Covered c)) = c.covered.0
+covered_by (Ok (ans.Returned r)) = 0
+covered_by (Ok (ans.Concluded n)) = 0
 
 -- what an answer returned
-abbrev pub returned_by : Answer → ℕ
-returned_by (ans.Refused e) = 0
-returned_by ans.Done = 0
-returned_by (ans.Entry e) = 0
-returned_by (ans.Released f a) = 0
-returned_by (ans.Closed l c) = 0
-returned_by (ans.Covered x y) = 0
-returned_by (ans.Returned x y) = x.0
-returned_by (ans.Concluded n) = 0
+abbrev pub returned_by : Result Answer Refusal → ℕ
+returned_by (Err e) = 0
+returned_by (Ok ans.Done) = 0
+returned_by (Ok (ans.Entry e)) = 0
+returned_by (Ok (ans.Released m)) = 0
+returned_by (Ok (ans.Closed c)) = 0
+returned_by (Ok (ans.Covered c)) = 0
+returned_by (Ok (ans.Returned r)) = r.returned.0
+returned_by (Ok (ans.Concluded n)) = 0
 
 -- 1 for the answer of an accepted conclude
-abbrev pub concludes : Answer → ℕ
-concludes (ans.Refused e) = 0
-concludes ans.Done = 0
-concludes (ans.Entry e) = 0
-concludes (ans.Released f a) = 0
-concludes (ans.Closed l c) = 0
-concludes (ans.Covered x y) = 0
-concludes (ans.Returned x y) = 0
-concludes (ans.Concluded n) = 1
+abbrev pub concludes : Result Answer Refusal → ℕ
+concludes (Err e) = 0
+concludes (Ok ans.Done) = 0
+concludes (Ok (ans.Entry e)) = 0
+concludes (Ok (ans.Released m)) = 0
+concludes (Ok (ans.Closed c)) = 0
+concludes (Ok (ans.Covered c)) = 0
+concludes (Ok (ans.Returned r)) = 0
+concludes (Ok (ans.Concluded n)) = 1
 
 -- a sum over a history
-abbrev pub over : (Call → Answer → ℕ) → List Entry → ℕ
+abbrev pub over : (Call → Result Answer Refusal → ℕ) → List Entry → ℕ
 over f [] = 0
 over f (e ∷ es) = f e.called e.replied + over f es
 

@@ -97,24 +97,40 @@ fn print_refusal<W: Write>(out: &mut W, refusal: Refusal) -> io::Result<()> {
 }
 
 // What a call answers.
-fn print_answer<W: Write>(out: &mut W, answer: Answer) -> io::Result<()> {
+fn print_answer<W: Write>(out: &mut W, answer: Result<Answer, Refusal>) -> io::Result<()> {
     match answer {
-        Answer::Refused(refusal) => print_refusal(out, refusal),
-        Answer::Done => writeln!(out, "ok"),
-        Answer::Entry(entry) => writeln!(out, "entry {entry}"),
-        Answer::Released { fund, assessment } => {
-            writeln!(out, "fund {} assessment {}", fund.0, assessment.0)
+        Ok(Answer::Done) => writeln!(out, "ok"),
+        Ok(Answer::Entry(entry)) => writeln!(out, "entry {entry}"),
+        Ok(Answer::Released(member)) => {
+            writeln!(
+                out,
+                "fund {} assessment {}",
+                member.fund.0, member.assessment.0
+            )
         }
-        Answer::Closed { failed, capacity } => {
-            writeln!(out, "failed {failed} capacity {}", capacity.0)
+        Ok(Answer::Closed(closing)) => {
+            writeln!(
+                out,
+                "failed {} capacity {}",
+                closing.failed, closing.capacity.0
+            )
         }
-        Answer::Covered { covered, uncovered } => {
-            writeln!(out, "covered {} uncovered {}", covered.0, uncovered.0)
+        Ok(Answer::Covered(covering)) => {
+            writeln!(
+                out,
+                "covered {} uncovered {}",
+                covering.covered.0, covering.uncovered.0
+            )
         }
-        Answer::Returned { returned, surplus } => {
-            writeln!(out, "returned {} surplus {}", returned.0, surplus.0)
+        Ok(Answer::Returned(returning)) => {
+            writeln!(
+                out,
+                "returned {} surplus {}",
+                returning.returned.0, returning.surplus.0
+            )
         }
-        Answer::Concluded(loss) => writeln!(out, "net-loss {}", loss.0),
+        Ok(Answer::Concluded(loss)) => writeln!(out, "net-loss {}", loss.0),
+        Err(refusal) => print_refusal(out, refusal),
     }
 }
 

@@ -1,5 +1,6 @@
 // What the calls answer, added up.
 use book::answers::Answer;
+use share::refusal::Refusal;
 use share::units::Dollars;
 use std::io;
 use std::io::Write;
@@ -40,25 +41,25 @@ impl Sums {
         }
     }
 
-    pub(crate) fn add(&mut self, answer: Answer) {
+    pub(crate) fn add(&mut self, answer: Result<Answer, Refusal>) {
         match answer {
-            Answer::Refused(_) => raise(&mut self.refused, 1),
-            Answer::Done => {}
-            Answer::Released { .. } => {}
-            Answer::Entry(entry) => raise(&mut self.entries, u64::from(entry)),
-            Answer::Closed { failed, capacity } => {
-                raise(&mut self.failed, u64::from(failed));
-                raise(&mut self.capacity, capacity.0);
+            Ok(Answer::Done) => {}
+            Ok(Answer::Released(_)) => {}
+            Ok(Answer::Entry(entry)) => raise(&mut self.entries, u64::from(entry)),
+            Ok(Answer::Closed(closing)) => {
+                raise(&mut self.failed, u64::from(closing.failed));
+                raise(&mut self.capacity, closing.capacity.0);
             }
-            Answer::Covered { covered, uncovered } => {
-                raise(&mut self.covered, covered.0);
-                raise(&mut self.uncovered, uncovered.0);
+            Ok(Answer::Covered(covering)) => {
+                raise(&mut self.covered, covering.covered.0);
+                raise(&mut self.uncovered, covering.uncovered.0);
             }
-            Answer::Returned { returned, surplus } => {
-                raise(&mut self.returned, returned.0);
-                raise(&mut self.surplus, surplus.0);
+            Ok(Answer::Returned(returning)) => {
+                raise(&mut self.returned, returning.returned.0);
+                raise(&mut self.surplus, returning.surplus.0);
             }
-            Answer::Concluded(loss) => raise(&mut self.loss, loss.0),
+            Ok(Answer::Concluded(loss)) => raise(&mut self.loss, loss.0),
+            Err(_) => raise(&mut self.refused, 1),
         }
     }
 

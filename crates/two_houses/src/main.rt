@@ -26,8 +26,8 @@ struct Houses {
 impl Houses {
     // Has both books make the calls, and prints what each answers and how their seats stand then.
     fn run<W: Write>(&mut self, out: &mut W, calls: &[Call]) -> io::Result<()> {
-        let mut one = [Answer::Done; MOST_CALLS];
-        let mut other = [Answer::Done; MOST_CALLS];
+        let mut one = [Ok(Answer::Done); MOST_CALLS];
+        let mut other = [Ok(Answer::Done); MOST_CALLS];
         let _ = self.deposit.run::<Pool>(calls, &mut one);
         let _ = self.pool.run::<Deposit>(calls, &mut other);
         for i in 0..calls.len().min(MOST_CALLS) {

@@ -65,24 +65,43 @@ fn print_refusal<W: Write>(out: &mut W, refusal: Refusal) -> io::Result<()> {
 }
 
 // What a call answers.
-pub(crate) fn print_answer<W: Write>(out: &mut W, answer: Answer) -> io::Result<()> {
+pub(crate) fn print_answer<W: Write>(
+    out: &mut W,
+    answer: Result<Answer, Refusal>,
+) -> io::Result<()> {
     match answer {
-        Answer::Refused(refusal) => print_refusal(out, refusal),
-        Answer::Done => write!(out, "ok"),
-        Answer::Entry(entry) => write!(out, "entry {entry}"),
-        Answer::Released { fund, assessment } => {
-            write!(out, "fund {} assessment {}", fund.0, assessment.0)
+        Ok(Answer::Done) => write!(out, "ok"),
+        Ok(Answer::Entry(entry)) => write!(out, "entry {entry}"),
+        Ok(Answer::Released(member)) => {
+            write!(
+                out,
+                "fund {} assessment {}",
+                member.fund.0, member.assessment.0
+            )
         }
-        Answer::Closed { failed, capacity } => {
-            write!(out, "failed {failed} capacity {}", capacity.0)
+        Ok(Answer::Closed(closing)) => {
+            write!(
+                out,
+                "failed {} capacity {}",
+                closing.failed, closing.capacity.0
+            )
         }
-        Answer::Covered { covered, uncovered } => {
-            write!(out, "covered {} uncovered {}", covered.0, uncovered.0)
+        Ok(Answer::Covered(covering)) => {
+            write!(
+                out,
+                "covered {} uncovered {}",
+                covering.covered.0, covering.uncovered.0
+            )
         }
-        Answer::Returned { returned, surplus } => {
-            write!(out, "returned {} surplus {}", returned.0, surplus.0)
+        Ok(Answer::Returned(returning)) => {
+            write!(
+                out,
+                "returned {} surplus {}",
+                returning.returned.0, returning.surplus.0
+            )
         }
-        Answer::Concluded(loss) => write!(out, "net-loss {}", loss.0),
+        Ok(Answer::Concluded(loss)) => write!(out, "net-loss {}", loss.0),
+        Err(refusal) => print_refusal(out, refusal),
     }
 }
 

@@ -1,5 +1,6 @@
 // The calls of a Bidding book: excuses, bids, and the close.
-ghost use Rattle.book.specs.Calls.{said, closing, done, entering_as};
+ghost use Rattle.book.specs.Calls.{said, done};
+ghost use Rattle.book.specs.declared.answers.Answer.TheVariants.{Closed, Entry};
 ghost use Rattle.book.specs.Next.{answer, next};
 ghost use Rattle.book.specs.State.{view};
 ghost use Rattle.book.specs.declared.calls.Call.TheVariants.{Bid as BidCall, Close, Excuse};
@@ -37,7 +38,7 @@ impl<R: Resource> Book<R> {
         size: u16,
         price: i32,
     ) -> Result<u16, Refusal>
-        ensures answer { said entering_as (numbered result) ≡ answer (view R.Resource self.old) (BidCall member lot kind size price) }
+        ensures answer { said Entry (numbered result) ≡ answer (view R.Resource self.old) (BidCall member lot kind size price) }
         ensures after { view R.Resource self.new ≡ next (view R.Resource self.old) (BidCall member lot kind size price) }
     {
         self.in_phase(Phase::Bidding)?;
@@ -53,7 +54,7 @@ impl<R: Resource> Book<R> {
 
     // Clears the lots. If all fail there is no auction any more; otherwise the pools are filled.
     pub fn close(&mut self) -> Result<Closing, Refusal>
-        ensures answer { said closing (numbered result) ≡ answer (view R.Resource self.old) (Close) }
+        ensures answer { said Closed (numbered result) ≡ answer (view R.Resource self.old) (Close) }
         ensures after { view R.Resource self.new ≡ next (view R.Resource self.old) (Close) }
     {
         self.in_phase(Phase::Bidding)?;

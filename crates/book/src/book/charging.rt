@@ -1,5 +1,6 @@
 // The calls of a Charging book: charges, recoveries, and the conclusion.
-ghost use Rattle.book.specs.Calls.{concluding, covering, returning, said};
+ghost use Rattle.book.specs.Calls.{said};
+ghost use Rattle.book.specs.declared.answers.Answer.TheVariants.{Concluded, Covered, Returned};
 ghost use Rattle.book.specs.Next.{answer, next};
 ghost use Rattle.auction.specs.Places.{places_of};
 ghost use Rattle.book.specs.Standing.{lowered_roster};
@@ -37,7 +38,7 @@ fn within_limits(amount: Dollars) -> Result<(), Refusal>
 impl<R: Resource> Book<R> {
     // Charges a loss to the seats, as far as they have capacity free.
     pub fn charge(&mut self, amount: Dollars) -> Result<Covering, Refusal>
-        ensures answer { said covering (numbered result) ≡ answer (view R.Resource self.old) (Charge amount) }
+        ensures answer { said Covered (numbered result) ≡ answer (view R.Resource self.old) (Charge amount) }
         ensures after { view R.Resource self.new ≡ next (view R.Resource self.old) (Charge amount) }
     {
         self.in_phase(Phase::Charging)?;
@@ -53,7 +54,7 @@ impl<R: Resource> Book<R> {
 
     // Returns a recovery to the seats, as far as there is a net loss.
     pub fn recover(&mut self, amount: Dollars) -> Result<Returning, Refusal>
-        ensures answer { said returning (numbered result) ≡ answer (view R.Resource self.old) (Recover amount) }
+        ensures answer { said Returned (numbered result) ≡ answer (view R.Resource self.old) (Recover amount) }
         ensures after { view R.Resource self.new ≡ next (view R.Resource self.old) (Recover amount) }
     {
         self.in_phase(Phase::Charging)?;
@@ -82,7 +83,7 @@ impl<R: Resource> Book<R> {
 
     // Takes the net loss from the members and from the house, ends the auction and answers the net loss.
     pub fn conclude(&mut self) -> Result<Dollars, Refusal>
-        ensures answer { said concluding (numbered result) ≡ answer (view R.Resource self.old) Conclude }
+        ensures answer { said Concluded (numbered result) ≡ answer (view R.Resource self.old) Conclude }
         ensures after { view R.Resource self.new ≡ next (view R.Resource self.old) Conclude }
     {
         self.in_phase(Phase::Charging)?;

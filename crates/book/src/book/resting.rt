@@ -1,5 +1,6 @@
 // The calls of a Resting book: members come, grow and go, and an auction opens.
-ghost use Rattle.book.specs.Calls.{said, done, releasing};
+ghost use Rattle.book.specs.Calls.{said, done};
+ghost use Rattle.book.specs.declared.answers.Answer.TheVariants.{Released};
 ghost use Rattle.book.specs.Next.{answer, next};
 ghost use Rattle.book.specs.State.{view};
 ghost use Rattle.book.specs.declared.calls.Call.TheVariants.{Enrol, Open, Release, TopUp};
@@ -36,7 +37,7 @@ impl<R: Resource> Book<R> {
 
     // Removes a member, and answers what it had.
     pub fn release(&mut self, member: u16) -> Result<Member, Refusal>
-        ensures answer { said releasing (numbered result) ≡ answer (view R.Resource self.old) (Release member) }
+        ensures answer { said Released (numbered result) ≡ answer (view R.Resource self.old) (Release member) }
         ensures after { view R.Resource self.new ≡ next (view R.Resource self.old) (Release member) }
     {
         self.in_phase(Phase::Resting)?;

@@ -7,43 +7,56 @@ use super::Book;
 use crate::answers::Answer;
 use crate::calls::Call;
 use resource::resource::Resource;
+use share::refusal::Refusal;
 
 impl<R: Resource> Book<R> {
     // Makes a call by its kind.
-    fn make(&mut self, call: &Call) -> Answer
+    fn make(&mut self, call: &Call) -> Result<Answer, Refusal>
         ensures { Does R.Resource self.old call.now result self.new }
     {
-        match *call {
+        Ok(match *call {
             Call::Enrol {
                 member,
                 fund,
                 assessment,
-            } => Answer::done(self.enrol(member, fund, assessment)),
+            } => {
+                self.enrol(member, fund, assessment)?;
+                Answer::Done
+            }
             Call::TopUp {
                 member,
                 fund,
                 assessment,
-            } => Answer::done(self.top_up(member, fund, assessment)),
-            Call::Release(member) => Answer::released(self.release(member)),
-            Call::Open(offer) => Answer::done(self.open(&offer)),
-            Call::Excuse { member, lot } => Answer::done(self.excuse(member, lot)),
+            } => {
+                self.top_up(member, fund, assessment)?;
+                Answer::Done
+            }
+            Call::Release(member) => Answer::Released(self.release(member)?),
+            Call::Open(offer) => {
+                self.open(&offer)?;
+                Answer::Done
+            }
+            Call::Excuse { member, lot } => {
+                self.excuse(member, lot)?;
+                Answer::Done
+            }
             Call::Bid {
                 member,
                 lot,
                 kind,
                 size,
                 price,
-            } => Answer::entry(self.bid(member, lot, kind, size, price)),
-            Call::Close => Answer::closed(self.close()),
-            Call::Charge(amount) => Answer::covered(self.charge(amount)),
-            Call::Recover(amount) => Answer::returned(self.recover(amount)),
-            Call::Conclude => Answer::concluded(self.conclude()),
-        }
+            } => Answer::Entry(self.bid(member, lot, kind, size, price)?),
+            Call::Close => Answer::Closed(self.close()?),
+            Call::Charge(amount) => Answer::Covered(self.charge(amount)?),
+            Call::Recover(amount) => Answer::Returned(self.recover(amount)?),
+            Call::Conclude => Answer::Concluded(self.conclude()?),
+        })
     }
 
     // Makes a call, and answers what it answers. A book with a history goes on with it, by this call.
     // `S` is the house of any other book: the law compares the two.
-    pub fn apply<S: Resource>(&mut self, call: &Call) -> Answer
+    pub fn apply<S: Resource>(&mut self, call: &Call) -> Result<Answer, Refusal>
         ensures does { Does R.Resource self.old call.now result self.new }
         ensures lives { LivesOn R.Resource self.old call.now result self.new }
         ensures law { Law R.Resource S.Resource }
@@ -52,7 +65,11 @@ impl<R: Resource> Book<R> {
     }
 
     // Makes calls one after another, as long as there is room for their answers, and says how many it made.
-    pub fn run<S: Resource>(&mut self, calls: &[Call], answers: &mut [Answer]) -> usize
+    pub fn run<S: Resource>(
+        &mut self,
+        calls: &[Call],
+        answers: &mut [Result<Answer, Refusal>],
+    ) -> usize
         ensures count { result ≡ min (length calls.now) (length answers.old) }
         ensures ran { Ran R.Resource self.old (take result calls.now) (take result answers.new) self.new }
         ensures rest { drop result answers.new ≡ drop result answers.old }

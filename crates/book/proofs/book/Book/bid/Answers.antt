@@ -8,7 +8,8 @@ use Rattle.auction.specs.Auctions.{listings_of}
 use Rattle.auction.specs.Enrolling.{no_member, absent}
 use Rattle.auction.specs.Lots.{lot_at, no_lot, bid_tests, lot_tests, with_lot, entering}
 use Rattle.auction.proofs.Listings.{somewhere}
-use Rattle.book.specs.Calls.{bid_of, entering_as}
+use Rattle.book.specs.Calls.{bid_of}
+use Rattle.book.specs.declared.answers.Answer.TheVariants.{Entry}
 use Rattle.book.specs.Next.{after, with_lots}
 use Rattle.book.specs.Refusals.{out_of_phase, member_lot_tests, declined}
 use Rattle.book.specs.State.{view}
@@ -29,7 +30,7 @@ returns-in_err-member_and_lot g c =
     let enrolled = if_so (absent b.roster m) NotEnrolled in
     let declines = in-phase b k (unless-ok (out_of_phase b Bidding) tt tt c.in_ok-in_phase.ensures).0 in
     let p = err_from_is_err_and c.from_residual-in_err-member_and_lot.result c.from_residual-in_err-member_and_lot.ensures.1 in
-    let both = refused-by b k entering_as (first_nonzero (member_lot_tests b m l)) (number c.in_err-member_and_lot.field-0.0) tt (numbered c.from_residual-in_err-member_and_lot.result) c.in_err-member_and_lot.ensures
+    let both = refused-by b k Entry (first_nonzero (member_lot_tests b m l)) (number c.in_err-member_and_lot.field-0.0) tt (numbered c.from_residual-in_err-member_and_lot.result) c.in_err-member_and_lot.ensures
     (λ h. declines ∙ first_two range enrolled (bid_tests (lot_at b.lots l) bid) h) (ap numbered (p.1 ∙ ap Err p.2)) in
     record { answer = both.0; after = both.1 }
 
@@ -51,6 +52,6 @@ returns g c =
     let sized = ap₂ (bid_of m c.args.kind) c.from.ensures (to_z-of_z w32 c.args.price c.ranges.price) in
     let n = first_nonzero (lot_tests ls l bid) in
     record {
-      answer = answered-by b k entering_as n (length (lot_at ls l).bids + 1) (numbered c.enter.result) declines refl (c.enter.ensures.answer ∙ ap (λ x. unless (first_nonzero (lot_tests ls l x)) (length (lot_at ls l).bids + 1)) sized);
+      answer = answered-by b k Entry n (length (lot_at ls l).bids + 1) (numbered c.enter.result) declines refl (c.enter.ensures.answer ∙ ap (λ x. unless (first_nonzero (lot_tests ls l x)) (length (lot_at ls l).bids + 1)) sized);
       after = ap (with_lots b self.phase) (c.enter.ensures.after ∙ ap (λ x. left_by (first_nonzero (lot_tests ls l x)) ls (with_lot (entering x) l ls)) sized) ∙ lots-left n b Bidding (with_lot (entering bid) l ls) (phase-known self.phase Bidding phase) ∙ ap (λ i. left_by i b (after b k)) (sym declines);
     }
