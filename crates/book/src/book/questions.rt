@@ -50,7 +50,7 @@ impl<R: Resource> Book<R> {
     pub fn requirement(&self, member: u16, lot: u16) -> Result<Parts, Refusal>
         ensures { numbered result ≡ of_requirement (view R.Resource self.now) member lot }
     {
-        if self.phase.is(Phase::Resting) {
+        if self.phase == Phase::Resting {
             return Err(Refusal::WrongPhase);
         }
         self.member_and_lot(member, lot)?;

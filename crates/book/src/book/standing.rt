@@ -22,7 +22,7 @@ impl<R: Resource> Book<R> {
     pub(crate) fn in_phase(&self, phase: Phase) -> Result<(), Refusal>
         ensures { numbered result ≡ unless (out_of_phase (view R.Resource self.now) phase) tt }
     {
-        if self.phase.is(phase) {
+        if self.phase == phase {
             Ok(())
         } else {
             Err(Refusal::WrongPhase)
