@@ -15,6 +15,8 @@ use Rattle.auction.specs.declared.filling.Money.{Money}
 use Rattle.auction.specs.declared.filling.Money.TheVariants.{Fund, Assessment}
 use Rattle.auction.specs.declared.filling.Tier.{Tier}
 use Rattle.auction.specs.declared.filling.Tier.TheVariants.{First, Second, Third}
+use Rattle.book.specs.State.{pools_capacity, pools_standing}
+use Rattle.book.specs.declared.seats.Pools.{Pools}
 
 -- a pool of 32 light payers is made
 pub taken : (ws : List ℕ) → length ws ≡ 32 → Light ws → pool_refusal ws ≡ 0
@@ -46,6 +48,13 @@ light-nobody k h = light-zeros 32 k
 -- what a pool can stand for, and what it stands for, at most
 pub pool-bounds : (p : Pool) → (capacity_of p ≤ 3200000000) × (standing_of p ≤ 3200000000)
 pool-bounds p = (pool-total p, omega (arith, pool-total p, pool-covered p))
+
+pub pools-bounds : (p : Pools) → (pools_capacity p ≤ 9600000000) × (pools_standing p ≤ 9600000000)
+pools-bounds p =
+    let one = pool-bounds p.first in
+    let two = pool-bounds p.second in
+    let three = pool-bounds p.third in
+    (omega (arith, one.0, two.0, three.0), omega (arith, one.1, two.1, three.1))
 
 -- a number that a pool refuses is past its last payer
 pub payer-past : (count m n x : ℕ) → 0 < m → Err n ≡ unless (payer_refusal count m) x → count ≤ m - 1

@@ -1,5 +1,6 @@
 -- A book as the rules see it: numbers, members, lots and pools. Assumes nothing.
-use Rattle.std.specs.Prelude.{ℕ, ◌+◌, List, [], replicate, None, Option}
+use Rattle.std.specs.Prelude.{ℕ, ◌+◌, ◌-◌, min, List, [], replicate, None, Option}
+use Rattle.share.specs.Rule.{share_of}
 use Rattle.resource.specs.Pools.{Stake, capacity_of, fresh, payers_of, standing_of}
 use Rattle.resource.specs.declared.pool.Pool.{Pool}
 use Rattle.resource.specs.declared.resource.Resource.{Ghosts}
@@ -11,6 +12,7 @@ use Rattle.auction.specs.declared.member.Member.{Member}
 use Rattle.book.specs.declared.book.Book.{Book}
 use Rattle.book.specs.declared.phase.Phase.{Phase}
 use Rattle.book.specs.declared.phase.Phase.TheVariants.{Resting}
+use Rattle.book.specs.declared.seats.Pools.{Pools}
 use Rattle.book.specs.declared.seats.Seats.{Seats}
 
 -- the six pools by seat, each by its weights and its standing
@@ -39,20 +41,30 @@ stake_of p = record { payers = payers_of p; standing = standing_of p }
 -- the six pools of the code
 abbrev pub stakes_of : Seats → Stakes
 stakes_of s = record {
-  first = stake_of s.first;
-  second = stake_of s.second;
-  third = stake_of s.third;
-  fifth = stake_of s.fifth;
-  sixth = stake_of s.sixth;
-  seventh = stake_of s.seventh;
+  first = stake_of s.funds.first;
+  second = stake_of s.funds.second;
+  third = stake_of s.funds.third;
+  fifth = stake_of s.assessments.first;
+  sixth = stake_of s.assessments.second;
+  seventh = stake_of s.assessments.third;
 }
 
--- what the six pools can stand for, and what they stand for
-abbrev pub all_capacity : Seats → ℕ
-all_capacity s = (capacity_of s.first + (capacity_of s.second + capacity_of s.third)) + (capacity_of s.fifth + (capacity_of s.sixth + capacity_of s.seventh))
+-- a pool that stands for what it can of an amount
+abbrev pub poured : Pool → ℕ → Stake
+poured p n = record { payers = payers_of p; standing = min (capacity_of p) n }
 
-abbrev pub all_stood : Seats → ℕ
-all_stood s = (standing_of s.first + (standing_of s.second + standing_of s.third)) + (standing_of s.fifth + (standing_of s.sixth + standing_of s.seventh))
+-- what three pools can stand for, what they stand for, and what a member bears in them
+abbrev pub pools_capacity : Pools → ℕ
+pools_capacity p = capacity_of p.first + (capacity_of p.second + capacity_of p.third)
+
+abbrev pub pools_standing : Pools → ℕ
+pools_standing p = standing_of p.first + (standing_of p.second + standing_of p.third)
+
+abbrev pub pools_borne : Pools → ℕ → ℕ
+pools_borne p m =
+    share_of (standing_of p.first) (payers_of p.first) (m - 1)
+    + (share_of (standing_of p.second) (payers_of p.second) (m - 1)
+    + share_of (standing_of p.third) (payers_of p.third) (m - 1))
 
 -- a book of the code, the house by the meaning of its resource
 abbrev pub view : {R : Type 0} → Ghosts R → Book R → State

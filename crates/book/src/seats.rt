@@ -1,26 +1,32 @@
 // The six pools of an auction.
-ghost use Rattle.std.specs.Prelude.{◌≡◌, ◌+◌, ◌-◌, ◌<◌, ◌≤◌, min, length};
+ghost use Rattle.std.specs.Prelude.{◌≡◌, ◌+◌, ◌-◌, ◌<◌, ◌≤◌, length};
 ghost use Rattle.auction.specs.Filling.{column_of, weights_by, WithinLimits};
+ghost use Rattle.auction.specs.declared.filling.Tier.TheVariants.{First, Second, Third};
 ghost use Rattle.book.specs.Standing.{borne_by, fresh_stakes, InSeat};
-ghost use Rattle.book.specs.State.{all_capacity, all_idle, all_stood, stake_of, stakes_of};
+ghost use Rattle.book.specs.State.{all_idle, pools_borne, pools_capacity, pools_standing, poured, stake_of, stakes_of};
 ghost use Rattle.resource.specs.Payers.{weights_of, Light};
 ghost use Rattle.resource.specs.Pools.{capacity_of, fresh, payers_of, standing_of};
 ghost use Rattle.share.specs.Rule.{share_of};
 
 use auction::filling::{Filling, Money, Tier};
+use auction::member::Member;
 use resource::pool::Pool;
 use resource::resource::Resource;
 use share::units::Dollars;
 
-// The pools by seat: 1, 2 and 3 of the funds, 5, 6 and 7 of the assessments. The house is in seat 4.
+// The pools of one money, the members' funds or their assessments, by tier.
 #[derive(Clone, Copy)]
-pub struct Seats {
+pub struct Pools {
     pub first: Pool,
     pub second: Pool,
     pub third: Pool,
-    pub fifth: Pool,
-    pub sixth: Pool,
-    pub seventh: Pool,
+}
+
+// The pools of an auction: those of the funds are in seats 1 to 3, those of the assessments in seats 5 to 7. The house is in seat 4.
+#[derive(Clone, Copy)]
+pub struct Seats {
+    pub funds: Pools,
+    pub assessments: Pools,
 }
 
 // A pool over all member numbers.
@@ -43,7 +49,7 @@ fn brought(filling: &Filling, money: Money, tier: Tier) -> Pool
 // Has a pool stand for what it can of what is left of a loss, and says what it leaves.
 pub(crate) fn pour(pool: &mut Pool, left: u64) -> u64
     ensures rest { result ≡ left - capacity_of pool.old }
-    ensures after { stake_of pool.new ≡ record { payers = payers_of pool.old; standing = min (capacity_of pool.old) left } }
+    ensures after { stake_of pool.new ≡ poured pool.old left }
 {
     let stands = pool.capacity().0.min(left);
     let _ = pool.stand_at(Dollars(stands));
@@ -62,19 +68,74 @@ pub(crate) fn borne(pool: &Pool, member: u16) -> u64
     }
 }
 
+impl Pools {
+    // Pools with what each member brings of a money.
+    fn filled(filling: &Filling, money: Money) -> Pools
+        requires { WithinLimits (weights_by filling.now) }
+        ensures first { stake_of result.first ≡ fresh (column_of money First filling.now) }
+        ensures second { stake_of result.second ≡ fresh (column_of money Second filling.now) }
+        ensures third { stake_of result.third ≡ fresh (column_of money Third filling.now) }
+    {
+        Pools {
+            first: brought(filling, money, Tier::First),
+            second: brought(filling, money, Tier::Second),
+            third: brought(filling, money, Tier::Third),
+        }
+    }
+
+    // Their capacity.
+    pub(crate) fn capacity(&self) -> u64
+        ensures value { result ≡ pools_capacity self.now }
+        ensures bound { result ≤ 9600000000 }
+    {
+        self.first.capacity().0 + self.second.capacity().0 + self.third.capacity().0
+    }
+
+    // What stands in them.
+    pub(crate) fn standing(&self) -> u64
+        ensures value { result ≡ pools_standing self.now }
+        ensures bound { result ≤ 9600000000 }
+    {
+        self.first.standing().0 + self.second.standing().0 + self.third.standing().0
+    }
+
+    // What a member bears in them.
+    fn bears(&self, member: u16) -> Dollars
+        requires { 0 < member }
+        ensures { result.0 ≡ pools_borne self.now member }
+    {
+        Dollars(
+            borne(&self.first, member) + borne(&self.second, member) + borne(&self.third, member),
+        )
+    }
+
+    // Has them stand in order for what they can of what is left of a loss, and says what they leave.
+    pub(crate) fn pour(&mut self, left: u64) -> u64
+        ensures rest { result ≡ left - capacity_of self.old.first - capacity_of self.old.second - capacity_of self.old.third }
+        ensures first { stake_of self.new.first ≡ poured self.old.first left }
+        ensures second { stake_of self.new.second ≡ poured self.old.second (left - capacity_of self.old.first) }
+        ensures third { stake_of self.new.third ≡ poured self.old.third (left - capacity_of self.old.first - capacity_of self.old.second) }
+    {
+        let left = pour(&mut self.first, left);
+        let left = pour(&mut self.second, left);
+        pour(&mut self.third, left)
+    }
+}
+
 impl Seats {
     // Pools in which nobody has a weight.
     pub(crate) fn idle() -> Seats
         ensures { stakes_of result ≡ all_idle }
     {
         let nobody = pool(&[Dollars(0); 32]);
-        Seats {
+        let idle = Pools {
             first: nobody,
             second: nobody,
             third: nobody,
-            fifth: nobody,
-            sixth: nobody,
-            seventh: nobody,
+        };
+        Seats {
+            funds: idle,
+            assessments: idle,
         }
     }
 
@@ -84,57 +145,21 @@ impl Seats {
         ensures { stakes_of result ≡ fresh_stakes (weights_by filling.now) }
     {
         Seats {
-            first: brought(filling, Money::Fund, Tier::First),
-            second: brought(filling, Money::Fund, Tier::Second),
-            third: brought(filling, Money::Fund, Tier::Third),
-            fifth: brought(filling, Money::Assessment, Tier::First),
-            sixth: brought(filling, Money::Assessment, Tier::Second),
-            seventh: brought(filling, Money::Assessment, Tier::Third),
+            funds: Pools::filled(filling, Money::Fund),
+            assessments: Pools::filled(filling, Money::Assessment),
         }
     }
 
-    // The capacity of the six pools.
-    pub(crate) fn capacity(&self) -> u64
-        ensures value { result ≡ all_capacity self.now }
-        ensures bound { result ≤ 19200000000 }
-    {
-        let funds = self.first.capacity().0 + self.second.capacity().0 + self.third.capacity().0;
-        let assessments = self.fifth.capacity().0
-            + self.sixth.capacity().0
-            + self.seventh.capacity().0;
-        funds + assessments
-    }
-
-    // What stands in the six pools.
-    pub(crate) fn standing(&self) -> u64
-        ensures value { result ≡ all_stood self.now }
-        ensures bound { result ≤ 19200000000 }
-    {
-        let funds = self.first.standing().0 + self.second.standing().0 + self.third.standing().0;
-        let assessments = self.fifth.standing().0
-            + self.sixth.standing().0
-            + self.seventh.standing().0;
-        funds + assessments
-    }
-
-    // What a member's fund bears: in seats 1 to 3.
-    pub(crate) fn fund_bears(&self, member: u16) -> Dollars
+    // What a member bears: its fund in seats 1 to 3, its assessment in seats 5 to 7.
+    pub(crate) fn bears(&self, member: u16) -> Member
         requires { 0 < member }
-        ensures { result.0 ≡ borne_by (stakes_of self.now) 1 member + (borne_by (stakes_of self.now) 2 member + borne_by (stakes_of self.now) 3 member) }
+        ensures fund { result.fund.0 ≡ borne_by (stakes_of self.now) 1 member + (borne_by (stakes_of self.now) 2 member + borne_by (stakes_of self.now) 3 member) }
+        ensures assessment { result.assessment.0 ≡ borne_by (stakes_of self.now) 5 member + (borne_by (stakes_of self.now) 6 member + borne_by (stakes_of self.now) 7 member) }
     {
-        Dollars(
-            borne(&self.first, member) + borne(&self.second, member) + borne(&self.third, member),
-        )
-    }
-
-    // What its assessment bears: in seats 5 to 7.
-    pub(crate) fn assessment_bears(&self, member: u16) -> Dollars
-        requires { 0 < member }
-        ensures { result.0 ≡ borne_by (stakes_of self.now) 5 member + (borne_by (stakes_of self.now) 6 member + borne_by (stakes_of self.now) 7 member) }
-    {
-        Dollars(
-            borne(&self.fifth, member) + borne(&self.sixth, member) + borne(&self.seventh, member),
-        )
+        Member {
+            fund: self.funds.bears(member),
+            assessment: self.assessments.bears(member),
+        }
     }
 
     // The pool in a seat; none in the fourth, and none where there is no seat.
@@ -142,12 +167,12 @@ impl Seats {
         ensures { InSeat (stakes_of self.now) seat result }
     {
         match seat {
-            1 => Some(&self.first),
-            2 => Some(&self.second),
-            3 => Some(&self.third),
-            5 => Some(&self.fifth),
-            6 => Some(&self.sixth),
-            7 => Some(&self.seventh),
+            1 => Some(&self.funds.first),
+            2 => Some(&self.funds.second),
+            3 => Some(&self.funds.third),
+            5 => Some(&self.assessments.first),
+            6 => Some(&self.assessments.second),
+            7 => Some(&self.assessments.third),
             _ => None,
         }
     }

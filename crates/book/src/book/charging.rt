@@ -74,9 +74,7 @@ impl<R: Resource> Book<R> {
         let mut members = self.members;
         for i in 0..MOST_MEMBERS {
             let member = i + 1;
-            let fund = self.seats.fund_bears(member);
-            let assessment = self.seats.assessment_bears(member);
-            members.lower(member, Member { fund, assessment });
+            members.lower(member, self.seats.bears(member));
         }
         members
     }

@@ -38,11 +38,12 @@ impl<R: Resource> Book<R> {
         ensures { numbered result ≡ of_member (view R.Resource self.now) member }
     {
         let held = self.members.enrolled(member)?;
+        let borne = self.seats.bears(member);
         Ok(Holding {
             fund: held.fund,
             assessment: held.assessment,
-            fund_borne: self.seats.fund_bears(member),
-            assessment_borne: self.seats.assessment_bears(member),
+            fund_borne: borne.fund,
+            assessment_borne: borne.assessment,
         })
     }
 
@@ -101,15 +102,12 @@ impl<R: Resource> Book<R> {
         ensures { numbered result ≡ of_seat (view R.Resource self.now) seat }
     {
         self.in_phase(Phase::Charging)?;
-        match seat {
-            1 => Ok(seat_of(&self.seats.first)),
-            2 => Ok(seat_of(&self.seats.second)),
-            3 => Ok(seat_of(&self.seats.third)),
-            4 => Ok(seat_of(&self.house)),
-            5 => Ok(seat_of(&self.seats.fifth)),
-            6 => Ok(seat_of(&self.seats.sixth)),
-            7 => Ok(seat_of(&self.seats.seventh)),
-            _ => Err(Refusal::OutOfRange),
+        if seat == 4 {
+            return Ok(seat_of(&self.house));
+        }
+        match self.seats.pool(seat) {
+            Some(pool) => Ok(seat_of(pool)),
+            None => Err(Refusal::OutOfRange),
         }
     }
 

@@ -11,7 +11,6 @@ ghost use Rattle.std.specs.Prelude.{◌≡◌};
 
 use super::Book;
 use crate::phase::Phase;
-use crate::seats::pour;
 use auction::roster::members::MOST_MEMBERS;
 use resource::resource::Resource;
 use share::refusal::Refusal;
@@ -56,27 +55,23 @@ impl<R: Resource> Book<R> {
     pub(crate) fn capacity(&self) -> u64
         ensures { result ≡ total (capacities (view R.Resource self.now)) }
     {
-        self.seats.capacity() + self.house.capacity().0
+        self.seats.funds.capacity() + self.house.capacity().0 + self.seats.assessments.capacity()
     }
 
     // What stands in all seats.
     pub(crate) fn standing(&self) -> u64
         ensures { result ≡ all_standing (view R.Resource self.now) }
     {
-        self.seats.standing() + self.house.standing().0
+        self.seats.funds.standing() + self.house.standing().0 + self.seats.assessments.standing()
     }
 
     // Has the seats stand in order for a net loss, each for what it can of what the seats before it leave.
     pub(crate) fn stand(&mut self, loss: Dollars)
         ensures { view R.Resource self.new ≡ moved_to (view R.Resource self.old) loss.0 }
     {
-        let left = pour(&mut self.seats.first, loss.0);
-        let left = pour(&mut self.seats.second, left);
-        let left = pour(&mut self.seats.third, left);
+        let left = self.seats.funds.pour(loss.0);
         let left = left - self.house.fill(Dollars(left)).0;
-        let left = pour(&mut self.seats.fifth, left);
-        let left = pour(&mut self.seats.sixth, left);
-        pour(&mut self.seats.seventh, left);
+        self.seats.assessments.pour(left);
         self.loss = loss;
         self.phase = Phase::Charging;
     }
