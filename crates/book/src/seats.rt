@@ -47,25 +47,22 @@ fn brought(filling: &Filling, money: Money, tier: Tier) -> Pool
 }
 
 // Has a pool stand for what it can of what is left of a loss, and says what it leaves.
-pub(crate) fn pour(pool: &mut Pool, left: u64) -> u64
-    ensures rest { result ≡ left - capacity_of pool.old }
-    ensures after { stake_of pool.new ≡ poured pool.old left }
+pub(crate) fn pour(pool: &mut Pool, left: Dollars) -> Dollars
+    ensures rest { result.0 ≡ left.0 - capacity_of pool.old }
+    ensures after { stake_of pool.new ≡ poured pool.old left.0 }
 {
-    let stands = pool.capacity().0.min(left);
-    let _ = pool.stand_at(Dollars(stands));
-    left - stands
+    let stands = pool.capacity().min(left);
+    let _ = pool.stand_at(stands);
+    Dollars(left.0 - stands.0)
 }
 
 // What a member bears in a pool.
-pub(crate) fn borne(pool: &Pool, member: u16) -> u64
+pub(crate) fn borne(pool: &Pool, member: u16) -> Dollars
     requires { 0 < member }
-    ensures value { result ≡ share_of (standing_of pool.now) (payers_of pool.now) (member - 1) }
-    ensures bound { result ≤ 3200000000 }
+    ensures value { result.0 ≡ share_of (standing_of pool.now) (payers_of pool.now) (member - 1) }
+    ensures bound { result.0 ≤ 3200000000 }
 {
-    match pool.bears(member) {
-        Ok(dollars) => dollars.0,
-        Err(_) => 0,
-    }
+    pool.bears(member).unwrap_or_default()
 }
 
 impl Pools {
@@ -104,17 +101,18 @@ impl Pools {
         requires { 0 < member }
         ensures { result.0 ≡ pools_borne self.now member }
     {
-        Dollars(
-            borne(&self.first, member) + borne(&self.second, member) + borne(&self.third, member),
-        )
+        let first = borne(&self.first, member);
+        let second = borne(&self.second, member);
+        let third = borne(&self.third, member);
+        Dollars(first.0 + second.0 + third.0)
     }
 
     // Has them stand in order for what they can of what is left of a loss, and says what they leave.
-    pub(crate) fn pour(&mut self, left: u64) -> u64
-        ensures rest { result ≡ left - capacity_of self.old.first - capacity_of self.old.second - capacity_of self.old.third }
-        ensures first { stake_of self.new.first ≡ poured self.old.first left }
-        ensures second { stake_of self.new.second ≡ poured self.old.second (left - capacity_of self.old.first) }
-        ensures third { stake_of self.new.third ≡ poured self.old.third (left - capacity_of self.old.first - capacity_of self.old.second) }
+    pub(crate) fn pour(&mut self, left: Dollars) -> Dollars
+        ensures rest { result.0 ≡ left.0 - capacity_of self.old.first - capacity_of self.old.second - capacity_of self.old.third }
+        ensures first { stake_of self.new.first ≡ poured self.old.first left.0 }
+        ensures second { stake_of self.new.second ≡ poured self.old.second (left.0 - capacity_of self.old.first) }
+        ensures third { stake_of self.new.third ≡ poured self.old.third (left.0 - capacity_of self.old.first - capacity_of self.old.second) }
     {
         let left = pour(&mut self.first, left);
         let left = pour(&mut self.second, left);

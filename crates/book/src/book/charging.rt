@@ -21,6 +21,7 @@ use auction::roster::members::MOST_MEMBERS;
 use resource::resource::Resource;
 use share::refusal::Refusal;
 use share::units::Dollars;
+use std::mem;
 
 pub const MOST_LOSS: u64 = 10_000_000_000;
 
@@ -59,11 +60,11 @@ impl<R: Resource> Book<R> {
     {
         self.in_phase(Phase::Charging)?;
         within_limits(amount)?;
-        let returned = amount.0.min(self.loss.0);
-        self.stand(Dollars(self.loss.0 - returned));
+        let returned = amount.min(self.loss);
+        self.stand(Dollars(self.loss.0 - returned.0));
         Ok(Returning {
-            returned: Dollars(returned),
-            surplus: Dollars(amount.0 - returned),
+            returned,
+            surplus: Dollars(amount.0 - returned.0),
         })
     }
 
@@ -72,8 +73,7 @@ impl<R: Resource> Book<R> {
         ensures { places_of result ≡ lowered_roster (view R.Resource self.now) }
     {
         let mut members = self.members;
-        for i in 0..MOST_MEMBERS {
-            let member = i + 1;
+        for member in 1..=MOST_MEMBERS {
             members.lower(member, self.seats.bears(member));
         }
         members
@@ -85,13 +85,11 @@ impl<R: Resource> Book<R> {
         ensures after { view R.Resource self.new ≡ next (view R.Resource self.old) Conclude }
     {
         self.in_phase(Phase::Charging)?;
-        let loss = self.loss;
         self.members = self.lowered();
         self.house.write_off();
         self.seats = Seats::idle();
         self.auction = Auction::none();
-        self.loss = Dollars(0);
         self.phase = Phase::Resting;
-        Ok(loss)
+        Ok(mem::take(&mut self.loss))
     }
 }

@@ -13,11 +13,10 @@ use share::units::Dollars;
 
 impl<R: Resource> Book<R> {
     // A book over a house, which stands for nothing from now on; nobody is enrolled. It has lived through nothing yet.
-    pub fn new(house: R) -> Book<R>
+    pub fn new(mut house: R) -> Book<R>
         ensures view { view R.Resource result ≡ made (R.capacity house) }
         ensures lives { Lived R.Resource (R.capacity house) [] result }
     {
-        let mut house = house;
         let _ = house.stand_at(Dollars(0));
         Book {
             phase: Phase::Resting,

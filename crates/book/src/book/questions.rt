@@ -73,7 +73,7 @@ impl<R: Resource> Book<R> {
     {
         self.in_phase(Phase::Charging)?;
         self.known_lot(lot)?;
-        if entry < 1 || entry > self.auction.bids(lot) {
+        if !(1..=self.auction.bids(lot)).contains(&entry) {
             return Err(Refusal::OutOfRange);
         }
         Ok(self.auction.allocation(lot, entry))
@@ -120,6 +120,6 @@ impl<R: Resource> Book<R> {
             return Err(Refusal::OutOfRange);
         };
         self.members.enrolled(member)?;
-        Ok(Dollars(borne(pool, member)))
+        Ok(borne(pool, member))
     }
 }

@@ -76,6 +76,7 @@ impl<R: Resource> Book<R> {
         ensures law { Law R.Resource S.Resource }
     {
         let count = calls.len().min(answers.len());
+        // By an index: behind a `zip` with `iter_mut` a proof knows how many answers there are, and not which.
         for i in 0..count {
             answers[i] = self.apply::<S>(&calls[i]);
         }

@@ -11,7 +11,6 @@ ghost use Rattle.std.specs.Prelude.{◌≡◌};
 
 use super::Book;
 use crate::phase::Phase;
-use auction::roster::members::MOST_MEMBERS;
 use resource::resource::Resource;
 use share::refusal::Refusal;
 use share::units::Dollars;
@@ -32,12 +31,8 @@ impl<R: Resource> Book<R> {
     pub(crate) fn member_and_lot(&self, member: u16, lot: u16) -> Result<(), Refusal>
         ensures { numbered result ≡ unless (first_nonzero (member_lot_tests (view R.Resource self.now) member lot)) tt }
     {
-        if member < 1 || member > MOST_MEMBERS || lot < 1 || lot > self.auction.count() {
-            return Err(Refusal::OutOfRange);
-        }
-        if self.members.place(member).is_none() {
-            return Err(Refusal::NotEnrolled);
-        }
+        self.known_lot(lot)?;
+        self.members.enrolled(member)?;
         Ok(())
     }
 
@@ -45,10 +40,11 @@ impl<R: Resource> Book<R> {
     pub(crate) fn known_lot(&self, lot: u16) -> Result<(), Refusal>
         ensures { numbered result ≡ unless (if_so (no_lot (view R.Resource self.now).lots lot) OutOfRange) tt }
     {
-        if lot < 1 || lot > self.auction.count() {
-            return Err(Refusal::OutOfRange);
+        if (1..=self.auction.count()).contains(&lot) {
+            Ok(())
+        } else {
+            Err(Refusal::OutOfRange)
         }
-        Ok(())
     }
 
     // The capacity of all seats.
@@ -69,9 +65,9 @@ impl<R: Resource> Book<R> {
     pub(crate) fn stand(&mut self, loss: Dollars)
         ensures { view R.Resource self.new ≡ moved_to (view R.Resource self.old) loss.0 }
     {
-        let left = self.seats.funds.pour(loss.0);
-        let left = left - self.house.fill(Dollars(left)).0;
-        self.seats.assessments.pour(left);
+        let left = self.seats.funds.pour(loss);
+        let filled = self.house.fill(left);
+        self.seats.assessments.pour(left - filled);
         self.loss = loss;
         self.phase = Phase::Charging;
     }
