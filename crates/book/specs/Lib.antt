@@ -11,3 +11,4 @@ pub mod Refusals
 pub mod Runs
 pub mod Standing
 pub mod State
+pub mod Texts

@@ -1,6 +1,10 @@
-// What calls and questions answer.
+// What calls and questions answer, and how it is printed.
+ghost use Rattle.book.specs.Texts.{answer_text, holding_text, seat_text};
+ghost use Rattle.std.specs.Prelude.{Some};
+
 use auction::member::Member;
 use share::units::Dollars;
+use std::fmt;
 
 // What a call answers that is not refused.
 #[derive(Clone, Copy)]
@@ -53,4 +57,51 @@ pub struct Holding {
 pub struct Seat {
     pub capacity: Dollars,
     pub standing: Dollars,
+}
+
+impl fmt::Display for Answer {
+    ghost output = { λ a. Some (answer_text a) };
+
+    fn fmt<W: fmt::Write>(&self, f: &mut fmt::Formatter<W>) -> fmt::Result {
+        match *self {
+            Answer::Done => write!(f, "ok"),
+            Answer::Entry(entry) => write!(f, "entry {entry}"),
+            Answer::Released(Member { fund, assessment }) => {
+                write!(f, "fund {} assessment {}", fund.0, assessment.0)
+            }
+            Answer::Closed(Closing { failed, capacity }) => {
+                write!(f, "failed {failed} capacity {}", capacity.0)
+            }
+            Answer::Covered(Covering { covered, uncovered }) => {
+                write!(f, "covered {} uncovered {}", covered.0, uncovered.0)
+            }
+            Answer::Returned(Returning { returned, surplus }) => {
+                write!(f, "returned {} surplus {}", returned.0, surplus.0)
+            }
+            Answer::Concluded(loss) => write!(f, "net-loss {}", loss.0),
+        }
+    }
+}
+
+impl fmt::Display for Holding {
+    ghost output = { λ h. Some (holding_text h) };
+
+    fn fmt<W: fmt::Write>(&self, f: &mut fmt::Formatter<W>) -> fmt::Result {
+        write!(f, "fund {} assessment {}", self.fund.0, self.assessment.0)?;
+        let fund = self.fund_borne.0;
+        let assessment = self.assessment_borne.0;
+        write!(f, " fund-borne {fund} assessment-borne {assessment}")
+    }
+}
+
+impl fmt::Display for Seat {
+    ghost output = { λ s. Some (seat_text s) };
+
+    fn fmt<W: fmt::Write>(&self, f: &mut fmt::Formatter<W>) -> fmt::Result {
+        write!(
+            f,
+            "capacity {} standing {}",
+            self.capacity.0, self.standing.0
+        )
+    }
 }
