@@ -1,11 +1,10 @@
 -- Calls that are answered after some tests were passed. Assumes nothing.
-use Rattle.std.proofs.Common.{◌≡◌, ℕ, zero, suc, ◌<◌, Bool, true, false, not, ◌||◌, List, [], ◌∷◌, Err, Option, Result, sym, refl, ap, ◌∙◌, ap₂, arith}
+use Rattle.std.proofs.Common.{◌≡◌, ℕ, zero, suc, Bool, true, false, not, ◌||◌, List, [], ◌∷◌, Result, sym, refl, ap, ◌∙◌, ap₂, arith}
 use Rattle.share.specs.Refusals.{unless, left_by, if_so, first_nonzero}
 use Rattle.share.specs.declared.refusal.Refusal.TheVariants.{WrongPhase, OutOfRange}
 use Rattle.auction.specs.Lots.{Listing}
-use Rattle.auction.specs.declared.member.Member.{Member}
 use Rattle.book.specs.Calls.{phase_of, same_phase, said}
-use Rattle.book.specs.Next.{after, reply, answer, next, with_roster, with_lots}
+use Rattle.book.specs.Next.{reply, answer, with_lots}
 use Rattle.book.specs.Refusals.{out_of_phase, tests, declined}
 use Rattle.book.specs.State.{State}
 use Rattle.book.specs.declared.answers.Answer.{Answer}
@@ -37,20 +36,7 @@ answered-by {T} b k f n x r d e h = ap (said f) h ∙ go n ∙ ap₂ unless (sym
     go zero = refl
     go (suc m) = refl
 
--- the answer and the book where one of the first tests refuses
-pub refused-by : {S T : Type 0} (b : State) (k : Call) (f : T → Answer) (m n : ℕ) (y : S) (r : Result T ℕ) → Err n ≡ unless m y → (0 < m → declined b k ≡ m) → r ≡ Err n → (said f r ≡ answer b k) × (b ≡ next b k)
-refused-by b k f zero n y r e d h = let z : ◌≡◌ {A = ℕ} 0 1 = cc in absurd (omega arith)
-refused-by b k f (suc m) n y r e d h =
-    let same : n ≡ suc m = cc in
-    let now = d (omega arith) in
-    (ap (said f) h ∙ ap Err same ∙ ap (λ i. unless i (reply b k)) (sym now), ap (λ i. left_by i b (after b k)) (sym now))
-
 -- the first two of several tests
-pub first_two : (x y : ℕ) (ns : List ℕ) → 0 < first_nonzero (x ∷ y ∷ []) → first_nonzero (x ∷ y ∷ ns) ≡ first_nonzero (x ∷ y ∷ [])
-first_two zero zero ns h = absurd (omega arith)
-first_two zero (suc y) ns h = refl
-first_two (suc x) y ns h = refl
-
 pub both-pass : (x y : ℕ) (ns : List ℕ) → first_nonzero (x ∷ y ∷ []) ≡ 0 → (x ≡ 0) × (first_nonzero (x ∷ y ∷ ns) ≡ first_nonzero ns)
 both-pass zero zero ns e = (refl, refl)
 both-pass zero (suc y) ns e = absurd (omega (arith, e))
@@ -62,11 +48,7 @@ second-in_range true w e = absurd (omega (arith, e))
 second-in_range false true e = absurd (omega (arith, e))
 second-in_range false false e = refl
 
--- the book with members or lots that a refusal leaves as they were
-pub roster-left : (n : ℕ) (b : State) (r : List (Option Member)) → with_roster b (left_by n b.roster r) ≡ left_by n b (with_roster b r)
-roster-left zero b r = refl
-roster-left (suc n) b r = refl
-
+-- the book with lots that a refusal leaves as they were
 pub lots-left : (n : ℕ) (b : State) (p : Phase) (ls : List Listing) → b.phase ≡ p → with_lots b b.phase (left_by n b.lots ls) ≡ left_by n b (with_lots b p ls)
 lots-left zero b p ls e = ap (λ q. with_lots b q ls) e
 lots-left (suc n) b p ls e = refl

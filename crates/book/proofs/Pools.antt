@@ -1,11 +1,9 @@
 -- The pools that members fill. Assumes nothing.
-use Rattle.std.proofs.Common.{◌≡◌, ℕ, zero, suc, ◌-◌, ◌<◌, ◌≤◌, true, false, cond, ◌||◌, ltb, List, length, get_or, replicate, is_ok, Ok, Err, Result, refl, ap, ◌∙◌, ap₂, inl, inr, arith}
-use Rattle.std.proofs.lemmas.Bool.{cases_lt}
-use Rattle.std.proofs.lemmas.Bool.Decides.{nat_tests}
+use Rattle.std.proofs.Common.{◌≡◌, ℕ, zero, suc, ◌≤◌, true, List, length, get_or, replicate, is_ok, Ok, Err, Result, refl, ap, ◌∙◌, arith}
 use Rattle.share.specs.Refusals.{numbered, unless, number}
 use Rattle.share.specs.declared.refusal.Refusal.{Refusal}
 use Rattle.resource.specs.Payers.{Light, pool_refusal}
-use Rattle.resource.specs.Pools.{Stake, as_made, capacity_of, standing_of, payer_refusal}
+use Rattle.resource.specs.Pools.{Stake, as_made, capacity_of, standing_of}
 use Rattle.resource.specs.declared.pool.Pool.{Pool}
 use Rattle.resource.proofs.Weights.{light-heavy, light-taken}
 use Rattle.resource.specs.Totals.{pool-total, pool-covered}
@@ -55,16 +53,3 @@ pools-bounds p =
     let two = pool-bounds p.second in
     let three = pool-bounds p.third in
     (omega (arith, one.0, two.0, three.0), omega (arith, one.1, two.1, three.1))
-
--- a number that a pool refuses is past its last payer
-pub payer-past : (count m n x : ℕ) → 0 < m → Err n ≡ unless (payer_refusal count m) x → count ≤ m - 1
-payer-past count m n x some e = elim (cases_lt (m - 1) count) [
-  | inl h ↦
-      let low : ltb m 1 ≡ false = grind (arith, nat_tests, some) in
-      let high : ltb count m ≡ false = grind (arith, nat_tests, h, some) in
-      let taken : payer_refusal count m ≡ 0 = ap₂ (λ v w. cond (v || w) 2 0) low high in
-      let w : Err n ≡ unless 0 x = e ∙ ap (λ k. unless k x) taken in
-      let o : ◌≡◌ {A = ℕ} 0 1 = cc in
-      absurd (omega arith)
-  | inr h ↦ h
-]

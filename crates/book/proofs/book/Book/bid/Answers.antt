@@ -1,7 +1,6 @@
-use Rattle.std.proofs.Common.{◌≡◌, ◌+◌, ◌||◌, length, Err, sym, refl, ap, ◌∙◌, ap₂, w32}
+use Rattle.std.proofs.Common.{◌≡◌, ◌+◌, ◌||◌, length, sym, refl, ap, ◌∙◌, ap₂, w32}
 use Rattle.std.proofs.lemmas.Int.{to_z-of_z}
-use Rattle.std.proofs.lemmas.Result.{err_from_is_err_and}
-use Rattle.share.specs.Refusals.{number, numbered, unless, left_by, if_so, first_nonzero}
+use Rattle.share.specs.Refusals.{numbered, unless, left_by, if_so, first_nonzero}
 use Rattle.share.specs.declared.refusal.Refusal.TheVariants.{OutOfRange, NotEnrolled}
 use Rattle.share.proofs.Answered.{unless-ok}
 use Rattle.auction.specs.Auctions.{listings_of}
@@ -15,24 +14,8 @@ use Rattle.book.specs.Refusals.{out_of_phase, member_lot_tests, declined}
 use Rattle.book.specs.State.{view}
 use Rattle.book.specs.declared.calls.Call.TheVariants.{Bid as BidCall}
 use Rattle.book.specs.declared.phase.Phase.TheVariants.{Bidding}
-use Rattle.book.proofs.Answering.{in-phase, phase-known, answered-by, refused-by, first_two, both-pass, second-in_range, lots-left}
+use Rattle.book.proofs.Answering.{in-phase, phase-known, answered-by, both-pass, second-in_range, lots-left}
 use Rattle.book.proofs.book.Book.bid.Goals as goal
-
-pub returns-in_err-member_and_lot : goal.returns-in_err-member_and_lot
-returns-in_err-member_and_lot g c =
-    let self = c.args.self.now in
-    let b = view g.R.Resource self in
-    let m = c.args.member in
-    let l = c.args.lot in
-    let bid = bid_of m c.args.kind c.args.size c.args.price in
-    let k = BidCall m l c.args.kind c.args.size c.args.price in
-    let range = if_so (no_member m || no_lot b.lots l) OutOfRange in
-    let enrolled = if_so (absent b.roster m) NotEnrolled in
-    let declines = in-phase b k (unless-ok (out_of_phase b Bidding) tt tt c.in_ok-in_phase.ensures).0 in
-    let p = err_from_is_err_and c.from_residual-in_err-member_and_lot.result c.from_residual-in_err-member_and_lot.ensures.1 in
-    let both = refused-by b k Entry (first_nonzero (member_lot_tests b m l)) (number c.in_err-member_and_lot.field-0.0) tt (numbered c.from_residual-in_err-member_and_lot.result) c.in_err-member_and_lot.ensures
-    (λ h. declines ∙ first_two range enrolled (bid_tests (lot_at b.lots l) bid) h) (ap numbered (p.1 ∙ ap Err p.2)) in
-    record { answer = both.0; after = both.1 }
 
 pub returns : goal.returns
 returns g c =

@@ -1,6 +1,5 @@
-use Rattle.std.proofs.Common.{◌≡◌, ◌<◌, length, take, drop, ◌∙◌, subst, arith}
+use Rattle.std.proofs.Common.{◌<◌, length, ◌∙◌, arith}
 use Rattle.std.proofs.lemmas.List.{length-set}
-use Rattle.book.specs.Lived.{Ran}
 use Rattle.book.proofs.Histories as lives
 use Rattle.book.proofs.Running.{ran-more, rest_more}
 use Rattle.book.proofs.book.Book.run.Goals as goal
@@ -16,13 +15,5 @@ loop-i-preserved g c =
       rest_more c.loop-i.answers c.args.answers.now i c.apply.result c.loop-i.invariant.2,
     )
 
-pub returns : goal.returns
-returns g c =
-    let calls = c.args.calls.now in
-    let end : c.loop-i.i ≡ c.min-count.result = omega (arith, c.loop-i-test.false, c.loop-i.auto.i-end) in
-    record {
-      count = c.min-count.ensures;
-      ran = subst (λ n. Ran g.R.Resource c.args.self.now (take n calls) (take n c.loop-i.answers) c.loop-i.self) end c.loop-i.invariant.1;
-      rest = subst (λ n. drop n c.loop-i.answers ≡ drop n c.args.answers.now) end c.loop-i.invariant.2;
-      law = lives.law g.R.Resource g.S.Resource;
-    }
+pub returns-clause-law : goal.returns-clause-law
+returns-clause-law g c = lives.law g.R.Resource g.S.Resource

@@ -8,5 +8,5 @@ overflow_add-result c = omega (arith, pools-bounds c.args.self.now)
 pub overflow_add-result-2 : goal.overflow_add-result-2
 overflow_add-result-2 c = omega (arith, pools-bounds c.args.self.now)
 
-pub returns : goal.returns
-returns c = record { value = omega arith; bound = omega (arith, pools-bounds c.args.self.now) }
+pub returns-clause-bound : goal.returns-clause-bound
+returns-clause-bound c = omega (arith, pools-bounds c.args.self.now)
