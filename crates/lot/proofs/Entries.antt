@@ -11,14 +11,6 @@ use Rattle.lot.specs.Lots.{entries_of}
 use Rattle.lot.specs.declared.bid.Bid.{Bid}
 use Rattle.lot.specs.declared.bids.Bids.{Bids}
 
--- a refusal leaves the bids as they were
-pub entered-err : (bs : List Bid) (b : Bid) (k : ℕ) → Err k ≡ unless {T = Unit {0}} (refusal bs b) tt → bs ≡ entered bs b
-entered-err bs b k = go (refusal bs b)
-  where
-    go : (n : ℕ) → Err k ≡ unless {T = Unit {0}} n tt → bs ≡ cond (eqb n 0) (bs ++ b ∷ []) bs
-    go zero e = let z : ◌≡◌ {A = ℕ} 0 1 = cc in absurd (omega arith)
-    go (suc n) e = rw (ne_eqb (suc n) 0 (λ z. omega arith))
-
 -- a bid that is taken
 module _ (lot : Bids) (b : Bid) (ok : Ok tt ≡ unless {T = Unit {0}} (refusal (entries_of lot) b) tt) where
   taken_is : refusal (entries_of lot) b ≡ 0
@@ -32,9 +24,3 @@ module _ (lot : Bids) (b : Bid) (ok : Ok tt ≡ unless {T = Unit {0}} (refusal (
 
   pub next-taken : taken_after [] (take (lot.count + 1) (set lot.entries lot.count b)) ≡ true
   next-taken = rw next-entries (taken-push [] (entries_of lot) b lot.taken taken_is)
-
-  pub next-entered : take (lot.count + 1) (set lot.entries lot.count b) ≡ entered (entries_of lot) b
-  next-entered = next-entries ∙ rw taken_is
-
-  pub next-number : Ok (lot.count + 1) ≡ unless (refusal (entries_of lot) b) (length (entries_of lot) + 1)
-  next-number = let long : length (entries_of lot) ≡ lot.count = simp length-take (omega (arith, lot.few, lot.long)) in rw (taken_is, long)

@@ -53,18 +53,3 @@ passing f (b ∷ bs) = by (f b) refl (passing f bs)
 
 pub greatest-is : (f : Bid → Bool) (bs : List Bid) → reduce later (map (λ b. b.price) (filter f bs)) ≡ greatest f bs
 greatest-is f bs = reduced (map (λ b. b.price) (filter f bs)) ∙ passing f bs
-
-pub max-better : (a b : Option Price) → ord_max (option_cmp (λ (p q : Price). int_cmp p.0 q.0)) a b ≡ better a b
-max-better None None = refl
-max-better None (Some q) = refl
-max-better (Some p) None = refl
-max-better (Some p) (Some q) = grind (arith, ints)
-
--- the parts that an average is taken over
-pub averaged-is : (n : ℕ) → max n 1 ≡ averaged n
-averaged-is zero = refl
-averaged-is (suc n) = omega arith
-
-pub averaged-some : (n : ℕ) → 0 < averaged n
-averaged-some zero = omega arith
-averaged-some (suc n) = omega arith

@@ -15,8 +15,5 @@ factors c = ap₂ ◌*ℤ◌
 fits : (c : goal.After-from-2) → SFits w64 (c.args.bid.now.price.0 *ℤ pos c.asked.result)
 fits c = times-fits c.args.bid.now.price.0 c.asked.result (price-fits c) c.asked.type_inv
 
-pub overflow_mul-result : goal.overflow_mul-result
-overflow_mul-result c = rw (factors c) (fits c)
-
 pub returns : goal.returns
 returns c = rw (factors c) (to_z-of_z w64 _ (fits c) ∙ ap (λ n. c.args.bid.now.price.0 *ℤ pos n) c.asked.ensures)

@@ -30,11 +30,11 @@ read c = to_z-of_z w64 _ (record { sfits = c.mean.type_inv }) ∙ quotient c
 pub overflow_cast-result : goal.overflow_cast-result
 overflow_cast-result c = rw (read c) (quotient_fits c)
 
-pub returns-in_default : goal.returns-in_default
-returns-in_default c =
+pub returns-in_default-clause-law : goal.returns-in_default-clause-law
+returns-in_default-clause-law c =
     let bs = entries_of c.args.self.now in
     let value : None ≡ average c.args.whose c.args.parts bs = search rules in
-    record { value = value; law = subst (AverageLaw c.args.whose c.args.parts bs) (sym value) (average-law c.args.whose c.args.parts bs c.requires) }
+    subst (AverageLaw c.args.whose c.args.parts bs) (sym value) (average-law c.args.whose c.args.parts bs c.requires)
 
 pub returns : goal.returns
 returns c =

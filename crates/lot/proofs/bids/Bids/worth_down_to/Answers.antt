@@ -23,9 +23,6 @@ product-fits c =
     let small = parts-few c.args.whose c.args.parts c.args.self.now c.args.last c.requires.some c.requires.reaches in
     times-fits c.args.last.0 (c.args.parts - c.asked.result) (last_fits c) (omega arith)
 
-pub overflow_mul-result : goal.overflow_mul-result
-overflow_mul-result c = rw (factors c) (product-fits c)
-
 -- the sum, and that it fits
 sum : (c : goal.After-from-2) →
     to_z w64 (of_z w64 c.worth_above.result) +ℤ to_z w64 (of_z w64 (to_z w64 (of_z w64 c.from.result) *ℤ to_z w64 (of_z w64 c.from-2.result)))
