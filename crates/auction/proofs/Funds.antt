@@ -1,8 +1,6 @@
 -- Rosters in which no amount is above its limit. Assumes nothing.
-use Rattle.std.proofs.Common.{◌≡◌, ℕ, zero, suc, ◌-◌, ◌≤◌, List, [], ◌∷◌, set, replicate, None, Option, sym, ap, ◌∙◌, arith}
-use Rattle.std.proofs.lemmas.List.{set-get_or}
-use Rattle.auction.specs.Enrolling.{less, put}
-use Rattle.auction.specs.Roster.{most_amount, place, fund_of, assessment_of, Funded}
+use Rattle.std.proofs.Common.{ℕ, zero, suc, ◌≤◌, List, [], ◌∷◌, set, replicate, None, Option, arith}
+use Rattle.auction.specs.Roster.{most_amount, fund_of, assessment_of, Funded}
 use Rattle.auction.specs.declared.member.Member.{Member}
 
 -- another entry within the limits at one place
@@ -18,7 +16,3 @@ pub funded-none : (n : ℕ) → Funded (replicate n None)
 funded-none zero k = (omega arith, omega arith)
 funded-none (suc n) zero = (omega arith, omega arith)
 funded-none (suc n) (suc k) = funded-none n k
-
--- where no member is, there is nothing to lower
-pub less_none : (r : List (Option Member)) (m f a : ℕ) → None ≡ place r m → r ≡ put r m (less (place r m) f a)
-less_none r m f a e = sym (ap (λ x. put r m (less x f a)) (sym e) ∙ ap (λ x. put r m x) e ∙ set-get_or r (m - 1) None)

@@ -1,6 +1,6 @@
 -- Lots as bids come to them. Assumes nothing.
-use Rattle.std.proofs.Common.{◌≡◌, ℕ, zero, suc, ◌-◌, ◌<◌, ◌≤◌, true, false, cond, eqb, ◌⊎◌, List, [], ◌∷◌, ◌++◌, map, length, get_or, take, set, sym, refl, ap, ◌∙◌, inl, inr, arith}
-use Rattle.std.proofs.lemmas.List.{length-map, length-take-le, length-set, get_or-take, get_or_past, set_past, set-get_or, take-map}
+use Rattle.std.proofs.Common.{◌≡◌, ℕ, zero, suc, ◌-◌, ◌<◌, ◌≤◌, false, cond, eqb, List, [], ◌∷◌, ◌++◌, map, length, get_or, take, set, sym, refl, ap, ◌∙◌, arith}
+use Rattle.std.proofs.lemmas.List.{length-map, length-take-le, length-set, get_or-take, set-get_or, take-map}
 use Rattle.std.proofs.lemmas.Bool.Decides.{nat_tests}
 use Rattle.share.specs.Refusals.{left_by, first_nonzero, if_so}
 use Rattle.share.specs.declared.refusal.Refusal.TheVariants.{OutOfRange, ExcusedByCall}
@@ -44,9 +44,6 @@ length-first ls n h = length-map (take n ls) listing_of ∙ length-take-le n ls 
 pub lot-in : (ls : List Lot) (n l i : ℕ) → i ≡ l - 1 → i < n → get_or (map listing_of ls) i unlisted ≡ lot_at (map listing_of (take n ls)) l
 lot-in ls n l i e h = sym (ap (λ xs. lot_at xs l) (sym (take-map listing_of n ls)) ∙ get_or-take n (map listing_of ls) (l - 1) unlisted (omega (arith, e, h)) ∙ ap (λ k. get_or (map listing_of ls) k unlisted) (sym e))
 
-pub lot-past : (ls : List Lot) (n l i : ℕ) → n ≤ length ls → i ≡ l - 1 → n ≤ i → unlisted ≡ lot_at (map listing_of (take n ls)) l
-lot-past ls n l i few e h = sym (get_or_past (map listing_of (take n ls)) (l - 1) unlisted (omega (arith, length-first ls n few, e, h)))
-
 -- another lot at a number
 take-set-in : {X : Type 0} (xs : List X) (n i : ℕ) (y : X) → take n (set xs i y) ≡ set (take n xs) i y
 take-set-in xs zero i y = refl
@@ -58,13 +55,6 @@ pub lots-set : (ls ms : List Lot) (n i : ℕ) (y : Listing) → map listing_of m
 lots-set ls ms n i y e =
     sym (take-map listing_of n ms) ∙ ap (take n) e ∙ take-set-in (map listing_of ls) n i y ∙ ap (λ xs. set xs i y) (take-map listing_of n ls)
 
-pub set-none : (ls : List Lot) (n l i : ℕ) (y : Listing) → n ≤ length ls → i ≡ l - 1 → n ≤ i → map listing_of (take n ls) ≡ set (map listing_of (take n ls)) (l - 1) y
-set-none ls n l i y few e h = sym (set_past (map listing_of (take n ls)) (l - 1) y (omega (arith, length-first ls n few, e, h)))
-
--- a bid for a lot that is not there
-pub nowhere : (ls : List Listing) (l : ℕ) (b : Bid) → no_lot ls l ≡ true → first_nonzero (lot_tests ls l b) ≡ 2
-nowhere ls l b e = ap (λ t. first_nonzero (if_so t OutOfRange ∷ bid_tests (lot_at ls l) b)) e
-
 -- a bid for one that is there
 pub somewhere : (ls : List Listing) (l : ℕ) (b : Bid) → no_lot ls l ≡ false → first_nonzero (lot_tests ls l b) ≡ first_nonzero (bid_tests (lot_at ls l) b)
 somewhere ls l b e = ap (λ t. first_nonzero (if_so t OutOfRange ∷ bid_tests (lot_at ls l) b)) e
@@ -75,10 +65,6 @@ set-left zero ls l f = refl
 set-left (suc n) ls l f = set-get_or ls (l - 1) unlisted
 
 -- which lots are there, by the number of lots
-pub not_there : (ls : List Listing) (n l : ℕ) → length ls ≡ n → (l < 1) ⊎ (n ≤ l - 1) → no_lot ls l ≡ true
-not_there ls n l e (inl h) = grind (arith, nat_tests, e, h)
-not_there ls n l e (inr h) = grind (arith, nat_tests, e, h)
-
 pub there : (ls : List Listing) (n l : ℕ) → length ls ≡ n → 1 ≤ l → l - 1 < n → no_lot ls l ≡ false
 there ls n l e low high = grind (arith, nat_tests, e, low, high)
 

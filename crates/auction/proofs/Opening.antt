@@ -21,11 +21,6 @@ opened-more ls ts i x d h k e same =
 pub good_more : (ts : List Terms) (i : ℕ) (d : Terms) → i < length ts → some_bad (take i ts) ≡ false → bad_lot (get_or ts i d) ≡ false → some_bad (take (i + 1) ts) ≡ false
 good_more ts i d h e g = list_any_more bad_lot ts i d h ∙ ap₂ (λ v w. v || w) e g
 
--- the weights of lots as they are opened
-pub weights-opened : (ts : List Terms) → map (λ (l : Listing). l.terms.weight) (map opened ts) ≡ map (λ (t : Terms). t.weight) ts
-weights-opened [] = refl
-weights-opened (t ∷ ts) = ap (λ ws. t.weight ∷ ws) (weights-opened ts)
-
 -- a lot that is made is not bad, and one that is not made is
 pub made-good : (v : Bool) (x y : Listing) → Ok x ≡ unless (if_so v LotTerms) y → (v ≡ false) × (x ≡ y)
 made-good true x y e = let z : ◌≡◌ {A = ℕ} 0 1 = cc in absurd (omega arith)

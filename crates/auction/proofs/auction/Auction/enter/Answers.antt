@@ -1,27 +1,9 @@
-use Rattle.std.proofs.Common.{◌≡◌, ◌+◌, true, map, length, get_or, take, set, sym, ap, ◌∙◌, inl, inr, arith}
+use Rattle.std.proofs.Common.{◌+◌, map, length, get_or, take, set, sym, ap, ◌∙◌, arith}
 use Rattle.share.specs.Refusals.{unless, left_by, first_nonzero}
 use Rattle.share.specs.Rule.{total}
-use Rattle.auction.specs.Lots.{listing_of, unlisted, lot_at, no_lot, bid_tests, entering, with_lot}
-use Rattle.auction.proofs.Listings.{length-first, lot-in, lots-set, nowhere, somewhere, set-left, not_there, there, same-weights, same_length, same-terms}
+use Rattle.auction.specs.Lots.{listing_of, unlisted, lot_at, bid_tests, entering, with_lot}
+use Rattle.auction.proofs.Listings.{length-first, lot-in, lots-set, somewhere, set-left, there, same-weights, same_length, same-terms}
 use Rattle.auction.proofs.auction.Auction.enter.Goals as goal
-use Rattle.auction.proofs.auction.Auction.enter.Goals.{then-lot-lt1-via-then-lot-lt1, then-lot-lt1-via-else-lot-lt1+then-i-self}
-
-pub returns-then-lot-lt1 : goal.returns-then-lot-lt1
-returns-then-lot-lt1 c =
-    let self = c.args.self.now in
-    let l = c.args.lot in
-    let b = c.args.bid in
-    let ls = map listing_of (take self.count self.lots) in
-    let many = length-first self.lots self.count (omega (arith, self.rooms, self.few)) in
-    let none : no_lot ls l ≡ true = elim c.then-lot-lt1.branch [
-      | then-lot-lt1-via-then-lot-lt1 w ↦ not_there ls self.count l many (inl w.if-lot-lt1.true)
-      | then-lot-lt1-via-else-lot-lt1+then-i-self w ↦ not_there ls self.count l many (inr (omega (arith, c.index-i.ensures, w.if-i-self.true)))
-    ] in
-    let two = sym (nowhere ls l b none) in
-    record {
-      answer = ap (λ n. unless n (length (lot_at ls l).bids + 1)) two;
-      after = ap (λ n. left_by n ls (with_lot (entering b) l ls)) two;
-    }
 
 pub returns : goal.returns
 returns c =

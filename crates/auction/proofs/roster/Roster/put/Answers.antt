@@ -1,8 +1,8 @@
-use Rattle.std.proofs.Common.{map, sym, ◌∙◌, subst, arith}
+use Rattle.std.proofs.Common.{map, sym, ◌∙◌, subst}
 use Rattle.std.proofs.lemmas.List.{length-set, map-set}
 use Rattle.auction.specs.Roster.{held, Funded}
 use Rattle.auction.proofs.Funds.{funded-set}
-use Rattle.auction.proofs.Rosters.{put_in, put-past}
+use Rattle.auction.proofs.Rosters.{put_in}
 use Rattle.auction.proofs.roster.Roster.put.Goals as goal
 
 pub invariant_of-self : goal.invariant_of-self
@@ -17,8 +17,3 @@ invariant_of-self c =
 
 pub returns-then-i-lt32 : goal.returns-then-i-lt32
 returns-then-i-lt32 c = put_in c.args.self.now.places c.args.member c.index-i.result c.args.entry c.index-i.ensures
-
-pub returns-else-i-lt32 : goal.returns-else-i-lt32
-returns-else-i-lt32 c =
-    let self = c.args.self.now in
-    put-past self.places c.args.member c.index-i.result c.args.entry c.index-i.ensures (omega (arith, self.whole, c.if-i-lt32.false))

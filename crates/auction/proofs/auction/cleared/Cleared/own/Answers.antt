@@ -4,18 +4,9 @@ use Rattle.auction.specs.Auctions.{listings_of}
 use Rattle.auction.specs.Classes.{senior_at, subordinate_at}
 use Rattle.auction.specs.Lots.{Listing, listing_of, price_in, unlisted}
 use Rattle.auction.specs.Weights.{lot_amounts}
-use Rattle.auction.proofs.Earnings.{weights-within, own-amount}
+use Rattle.auction.proofs.Earnings.{own-amount}
 use Rattle.auction.proofs.Listings.{inside-lots}
 use Rattle.auction.proofs.auction.cleared.Cleared.own.Goals as goal
-
-pub share-own-requires : goal.share-own-requires
-share-own-requires c =
-    let a = c.args.self.now.auction.now in
-    record {
-      bounded = c.requires.bounded;
-      summed = weights-within a c.lots-lots.result.now c.lots-lots.ensures;
-      within = inside-lots a c.lots-lots.result.now c.lots-lots.ensures c.args.i c.requires.within;
-    }
 
 pub returns : goal.returns
 returns c =
