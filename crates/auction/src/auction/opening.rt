@@ -61,7 +61,7 @@ impl Auction {
     pub(crate) fn lots(&self) -> &[Lot]
         ensures { map listing_of result.now ≡ listings_of self.now }
     {
-        &self.lots[0..self.count]
+        &self.lots[..self.count]
     }
 
     // How many lots there are.
