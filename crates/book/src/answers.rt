@@ -67,18 +67,18 @@ impl fmt::Display for Answer {
             Answer::Done => write!(f, "ok"),
             Answer::Entry(entry) => write!(f, "entry {entry}"),
             Answer::Released(Member { fund, assessment }) => {
-                write!(f, "fund {} assessment {}", fund.0, assessment.0)
+                write!(f, "fund {fund} assessment {assessment}")
             }
             Answer::Closed(Closing { failed, capacity }) => {
-                write!(f, "failed {failed} capacity {}", capacity.0)
+                write!(f, "failed {failed} capacity {capacity}")
             }
             Answer::Covered(Covering { covered, uncovered }) => {
-                write!(f, "covered {} uncovered {}", covered.0, uncovered.0)
+                write!(f, "covered {covered} uncovered {uncovered}")
             }
             Answer::Returned(Returning { returned, surplus }) => {
-                write!(f, "returned {} surplus {}", returned.0, surplus.0)
+                write!(f, "returned {returned} surplus {surplus}")
             }
-            Answer::Concluded(loss) => write!(f, "net-loss {}", loss.0),
+            Answer::Concluded(loss) => write!(f, "net-loss {loss}"),
         }
     }
 }
@@ -87,9 +87,9 @@ impl fmt::Display for Holding {
     ghost output = { λ h. Some (holding_text h) };
 
     fn fmt<W: fmt::Write>(&self, f: &mut fmt::Formatter<W>) -> fmt::Result {
-        write!(f, "fund {} assessment {}", self.fund.0, self.assessment.0)?;
-        let fund = self.fund_borne.0;
-        let assessment = self.assessment_borne.0;
+        write!(f, "fund {} assessment {}", self.fund, self.assessment)?;
+        let fund = self.fund_borne;
+        let assessment = self.assessment_borne;
         write!(f, " fund-borne {fund} assessment-borne {assessment}")
     }
 }
@@ -98,10 +98,6 @@ impl fmt::Display for Seat {
     ghost output = { λ s. Some (seat_text s) };
 
     fn fmt<W: fmt::Write>(&self, f: &mut fmt::Formatter<W>) -> fmt::Result {
-        write!(
-            f,
-            "capacity {} standing {}",
-            self.capacity.0, self.standing.0
-        )
+        write!(f, "capacity {} standing {}", self.capacity, self.standing)
     }
 }

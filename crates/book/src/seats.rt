@@ -53,7 +53,7 @@ pub(crate) fn pour(pool: &mut Pool, left: Dollars) -> Dollars
 {
     let stands = pool.capacity().min(left);
     let _ = pool.stand_at(stands);
-    Dollars(left.0 - stands.0)
+    left - stands
 }
 
 // What a member bears in a pool.
@@ -81,19 +81,19 @@ impl Pools {
     }
 
     // Their capacity.
-    pub(crate) fn capacity(&self) -> u64
-        ensures value { result ≡ pools_capacity self.now }
-        ensures bound { result ≤ 9600000000 }
+    pub(crate) fn capacity(&self) -> Dollars
+        ensures value { result.0 ≡ pools_capacity self.now }
+        ensures bound { result.0 ≤ 9600000000 }
     {
-        self.first.capacity().0 + self.second.capacity().0 + self.third.capacity().0
+        self.first.capacity() + self.second.capacity() + self.third.capacity()
     }
 
     // What stands in them.
-    pub(crate) fn standing(&self) -> u64
-        ensures value { result ≡ pools_standing self.now }
-        ensures bound { result ≤ 9600000000 }
+    pub(crate) fn standing(&self) -> Dollars
+        ensures value { result.0 ≡ pools_standing self.now }
+        ensures bound { result.0 ≤ 9600000000 }
     {
-        self.first.standing().0 + self.second.standing().0 + self.third.standing().0
+        self.first.standing() + self.second.standing() + self.third.standing()
     }
 
     // What a member bears in them.
@@ -101,10 +101,7 @@ impl Pools {
         requires { 0 < member }
         ensures { result.0 ≡ pools_borne self.now member }
     {
-        let first = borne(&self.first, member);
-        let second = borne(&self.second, member);
-        let third = borne(&self.third, member);
-        Dollars(first.0 + second.0 + third.0)
+        borne(&self.first, member) + borne(&self.second, member) + borne(&self.third, member)
     }
 
     // Has them stand in order for what they can of what is left of a loss, and says what they leave.

@@ -50,7 +50,7 @@ pub trait Resource {
     final fn free(&self) -> Dollars
         ensures { result.0 ≡ capacity self.now - standing self.now }
     {
-        Dollars(self.capacity().0 - self.standing().0)
+        self.capacity() - self.standing()
     }
 
     // Writes it off, and says what it stood for.

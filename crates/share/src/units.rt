@@ -3,7 +3,7 @@ ghost use Rattle.std.specs.Fmt.{decimal};
 ghost use Rattle.std.specs.Prelude.{◌≡◌, ◌+◌, ◌-◌, ◌<◌, ◌≤◌, ◌^◌, Some};
 
 use std::fmt;
-use std::ops::{Add, AddAssign, Sub};
+use std::ops::{Add, Sub};
 
 // A whole number of dollars.
 #[derive(Clone, Copy, PartialEq, Eq, PartialOrd, Ord, Default, Debug)]
@@ -22,16 +22,6 @@ impl Add for Dollars {
 
     fn add(self, more: Dollars) -> Dollars {
         Dollars(self.0 + more.0)
-    }
-}
-
-impl AddAssign for Dollars {
-    ghost can_add_assign = { λ a b. a.0 + b.0 < 2 ^ 64 };
-
-    ghost add_assign_gives = { λ a b r. r.0 ≡ a.0 + b.0 };
-
-    fn add_assign(&mut self, more: Dollars) {
-        self.0 += more.0;
     }
 }
 

@@ -108,8 +108,8 @@ impl Roster {
             return Err(Refusal::OutsideLimits);
         }
         let new = Member {
-            fund: Dollars(old.fund.0 + amounts.fund.0),
-            assessment: Dollars(old.assessment.0 + amounts.assessment.0),
+            fund: old.fund + amounts.fund,
+            assessment: old.assessment + amounts.assessment,
         };
         if new.is_too_much() {
             return Err(Refusal::OutsideLimits);

@@ -72,7 +72,7 @@ impl<R: Resource> Book<R> {
         self.stand(Dollars(0));
         Ok(Closing {
             failed,
-            capacity: Dollars(self.capacity()),
+            capacity: self.capacity(),
         })
     }
 }

@@ -45,11 +45,12 @@ impl<R: Resource> Book<R> {
         self.in_phase(Phase::Charging)?;
         within_limits(amount)?;
         let standing = self.standing();
-        let covered = amount.0.min(self.capacity().saturating_sub(standing));
-        self.stand(Dollars(standing + covered));
+        let free = Dollars(self.capacity().0.saturating_sub(standing.0));
+        let covered = amount.min(free);
+        self.stand(standing + covered);
         Ok(Covering {
-            covered: Dollars(covered),
-            uncovered: Dollars(amount.0 - covered),
+            covered,
+            uncovered: amount - covered,
         })
     }
 
@@ -61,10 +62,10 @@ impl<R: Resource> Book<R> {
         self.in_phase(Phase::Charging)?;
         within_limits(amount)?;
         let returned = amount.min(self.loss);
-        self.stand(Dollars(self.loss.0 - returned.0));
+        self.stand(self.loss - returned);
         Ok(Returning {
             returned,
-            surplus: Dollars(amount.0 - returned.0),
+            surplus: amount - returned,
         })
     }
 

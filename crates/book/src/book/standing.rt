@@ -48,17 +48,17 @@ impl<R: Resource> Book<R> {
     }
 
     // The capacity of all seats.
-    pub(crate) fn capacity(&self) -> u64
-        ensures { result ≡ total (capacities (view R.Resource self.now)) }
+    pub(crate) fn capacity(&self) -> Dollars
+        ensures { result.0 ≡ total (capacities (view R.Resource self.now)) }
     {
-        self.seats.funds.capacity() + self.house.capacity().0 + self.seats.assessments.capacity()
+        self.seats.funds.capacity() + self.house.capacity() + self.seats.assessments.capacity()
     }
 
     // What stands in all seats.
-    pub(crate) fn standing(&self) -> u64
-        ensures { result ≡ all_standing (view R.Resource self.now) }
+    pub(crate) fn standing(&self) -> Dollars
+        ensures { result.0 ≡ all_standing (view R.Resource self.now) }
     {
-        self.seats.funds.standing() + self.house.standing().0 + self.seats.assessments.standing()
+        self.seats.funds.standing() + self.house.standing() + self.seats.assessments.standing()
     }
 
     // Has the seats stand in order for a net loss, each for what it can of what the seats before it leave.

@@ -94,7 +94,7 @@ impl Pri {
         };
         Tranches {
             senior,
-            subordinate: Dollars(amount.0 - senior.0),
+            subordinate: amount - senior,
         }
     }
 }

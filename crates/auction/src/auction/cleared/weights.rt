@@ -64,8 +64,8 @@ impl<'a> Cleared<'a> {
         }
         for (i, in_lot) in earned.iter().enumerate() {
             let own = self.own(*in_lot, amount, i);
-            tiers.second = Dollars(tiers.second.0 + own.subordinate.0);
-            tiers.third = Dollars(tiers.third.0 + own.senior.0);
+            tiers.second.0 += own.subordinate.0;
+            tiers.third.0 += own.senior.0;
         }
         tiers
     }
