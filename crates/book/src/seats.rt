@@ -85,7 +85,7 @@ impl Pools {
         ensures value { result.0 ≡ pools_capacity self.now }
         ensures bound { result.0 ≤ 9600000000 }
     {
-        self.first.capacity() + self.second.capacity() + self.third.capacity()
+        Dollars(self.first.capacity().0 + self.second.capacity().0 + self.third.capacity().0)
     }
 
     // What stands in them.
@@ -93,7 +93,7 @@ impl Pools {
         ensures value { result.0 ≡ pools_standing self.now }
         ensures bound { result.0 ≤ 9600000000 }
     {
-        self.first.standing() + self.second.standing() + self.third.standing()
+        Dollars(self.first.standing().0 + self.second.standing().0 + self.third.standing().0)
     }
 
     // What a member bears in them.
