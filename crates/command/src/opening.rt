@@ -11,6 +11,7 @@ use auction::terms::Terms;
 use words::{count_words, split_word};
 
 // The offer that words write, three a lot, of one lot or more.
+// Behind `min` the cast loses nothing: `u16::try_from` would bring back a case that cannot be.
 pub(crate) fn offer(rest: &[u8]) -> Result<Offer, Fault>
     ensures { result ≡ offer_of rest.now }
 {
@@ -27,6 +28,7 @@ pub(crate) fn offer(rest: &[u8]) -> Result<Offer, Fault>
 }
 
 // The terms of the first four lots. The words of the others are read too.
+// A place by its index: with `held.get_mut(i)` the proof didn't close, since what an `if let` wrote to `held` is not known where its two ways join.
 fn first_four(lots: usize, line: &[u8]) -> Result<[Terms; 4], Fault>
     ensures { result ≡ given (lots_by lots line.now) (λ ls. Ok (first_four ls)) }
 {

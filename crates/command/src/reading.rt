@@ -117,7 +117,7 @@ pub(crate) fn three<A: FromWord, B: FromWord, C: FromWord>(rest: &[u8]) -> Resul
     ))
 }
 
-// A bid.
+// A bid. Its five words are written out, since a function over five types would serve it alone.
 pub(crate) fn bid(rest: &[u8]) -> Result<Call, Fault>
     ensures { result ≡ bid_of rest.now }
 {
