@@ -50,6 +50,13 @@ past most n bytes i h over =
     at_drop_more (reading most n) bytes i 0 h
     ∙ cond-false (all_ascii_digits (b ∷ rest) && leb (fold more (more n b) rest) most) _ _ (and_right (all_ascii_digits (b ∷ rest)) _ far)
 
+-- so the whole word is no number within the limit
+pub too-great : (most n : ℕ) (bytes : List ℕ) (i : ℕ) → reading most n (drop i bytes) ≡ reading most 0 bytes → i < length bytes → most < more n (get_or bytes i 0) → None ≡ natural_upto most bytes
+too-great most n bytes i inv h over =
+    let start = starts most bytes (omega arith) in
+    let stop = past most n bytes i h over in
+    cc
+
 -- at the end it is what was read
 pub ends : (most n : ℕ) (bytes : List ℕ) (i : ℕ) → length bytes ≤ i → n ≤ most → reading most n (drop i bytes) ≡ Some n
 ends most n bytes i h within = at_drop_all (reading most n) bytes i h ∙ rw (le-leb n most within)
@@ -76,10 +83,19 @@ plain [] h = refl
 plain (b ∷ bytes) h =
     let other : eqb b 45 ≡ false = grind (arith, nat_tests) in rw other
 
-pub reads_signed : (z : ℤ) → mag z < 2 ^ 31 → signed_of (signed_decimal z) ≡ Some z
-reads_signed (pos n) h =
+-- every number that fits 32 bits is read back
+pub reads_32 : (z : ℤ) → Fits32 z → signed_of (signed_decimal z) ≡ Some z
+reads_32 (pos n) h =
     plain (decimal n) (digits_decimal own n (omega arith)) ∙ rw (reads n 2147483647 (omega arith) (omega arith))
-reads_signed (negsuc n) h = rw (reads (suc n) 2147483648 (omega arith) (omega arith))
+reads_32 (negsuc n) h = rw (reads (suc n) 2147483648 (omega arith) (omega arith))
+
+-- and one below 2 ^ 31 without its sign fits
+fits : (z : ℤ) → mag z < 2 ^ 31 → Fits32 z
+fits (pos n) h = h
+fits (negsuc n) h = omega arith
+
+pub reads_signed : (z : ℤ) → mag z < 2 ^ 31 → signed_of (signed_decimal z) ≡ Some z
+reads_signed z h = reads_32 z (fits z h)
 
 -- a digit is no blank
 digits-solid : (word : List ℕ) → all_ascii_digits word ≡ true → Solid word
@@ -94,15 +110,10 @@ digits-solid (b ∷ bytes) h =
 pub decimal-word : (n : ℕ) → n < 2 ^ 64 → Solid (decimal n) × (0 < length (decimal n))
 decimal-word n h = (digits-solid (decimal n) (digits_decimal own n h), decimal_nonempty n h)
 
-pub signed_word : (z : ℤ) → mag z < 2 ^ 31 → Solid (signed_decimal z) × (0 < length (signed_decimal z))
-signed_word (pos n) h = decimal-word n (omega arith)
-signed_word (negsuc n) h = (All-cons (λ b. blank b ≡ false) 45 (decimal (suc n)) refl (decimal-word (suc n) (omega arith)).0, omega arith)
-
--- every number that fits 32 bits is a word and is read back
-pub reads_32 : (z : ℤ) → Fits32 z → signed_of (signed_decimal z) ≡ Some z
-reads_32 (pos n) h = reads_signed (pos n) h
-reads_32 (negsuc n) h = rw (reads (suc n) 2147483648 (omega arith) (omega arith))
-
+-- and so is one with a sign
 pub word-32 : (z : ℤ) → Fits32 z → Solid (signed_decimal z) × (0 < length (signed_decimal z))
 word-32 (pos n) h = decimal-word n (omega arith)
 word-32 (negsuc n) h = (All-cons (λ b. blank b ≡ false) 45 (decimal (suc n)) refl (decimal-word (suc n) (omega arith)).0, omega arith)
+
+pub signed_word : (z : ℤ) → mag z < 2 ^ 31 → Solid (signed_decimal z) × (0 < length (signed_decimal z))
+signed_word z h = word-32 z (fits z h)
