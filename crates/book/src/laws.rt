@@ -7,43 +7,31 @@ ghost use Rattle.book.specs.Lives.{Lives};
 use resource::resource::Resource;
 
 // Of every book that has lived, over any two resources: money is kept, seats fill in order, members bear in proportion, and the loss alone decides.
-pub fn law<R: Resource, S: Resource>() -> u8
+pub fn law<R: Resource, S: Resource>()
     ensures { Law R.Resource S.Resource }
-{
-    0
-}
+{}
 
 // Of every book that has lived: no seat stands above its capacity, what stands is the net loss, and no member bears more than it has.
-pub fn means_law<R: Resource>() -> u8
+pub fn means_law<R: Resource>()
     ensures { MeansLaw R.Resource }
-{
-    0
-}
+{}
 
 // Of every book that has lived: every fund, assessment, weight and capacity is within its limit, and there are at most four lots.
-pub fn limits_law<R: Resource>() -> u8
+pub fn limits_law<R: Resource>()
     ensures { LimitsLaw R.Resource }
-{
-    0
-}
+{}
 
 // Of every book that has lived: in Charging its pools have the weights that the filling rules give.
-pub fn filling_law<R: Resource>() -> u8
+pub fn filling_law<R: Resource>()
     ensures { FillingLaw R.Resource }
-{
-    0
-}
+{}
 
 // Each figure is what the definitions give.
-pub fn figures() -> u8
+pub fn figures()
     ensures { Figures }
-{
-    0
-}
+{}
 
 // Two whole lives answer as they should.
-pub fn lives() -> u8
+pub fn lives()
     ensures { Lives }
-{
-    0
-}
+{}
