@@ -22,7 +22,8 @@ use Rattle.book.specs.declared.calls.Call.{Call}
 use Rattle.book.specs.declared.calls.Call.TheVariants as call
 use Rattle.book.specs.declared.phase.Phase.TheVariants.{Resting, Bidding, Charging}
 use Rattle.book.proofs.Free.{within-means, idle-bears}
-use Rattle.book.proofs.Histories.{keeps, zeros, nothing-stands}
+use Rattle.book.proofs.Histories.{keeps, nothing-stands}
+use Rattle.book.proofs.Sums.{all-alike}
 use Rattle.book.proofs.Seating.{stand-within}
 use Rattle.book.proofs.Steps.{Fit, Sound, at_rest, at_bids, at_charge, either_way, stands-whole}
 
@@ -66,7 +67,7 @@ sized-total : (ws : List ℕ) → Sized ws → total ws ≤ limit
 sized-total ws z = light-total ws (λ k h. z.light k) (omega (arith, z.long))
 
 sized-idle : Sized (replicate 32 0)
-sized-idle = record { long = refl; light = λ i. omega (arith, zeros 32 i) }
+sized-idle = record { long = refl; light = λ i. omega (arith, all-alike {X = ℕ} 32 i 0) }
 
 -- the three pools of an amount within its limit
 module _ (r : List (Option Member)) (ls : List Listing) (places : length r ≡ 32) (amount : Option Member → ℕ) (within : (i : ℕ) → amount (get_or r i None) ≤ most_amount) where

@@ -1,5 +1,5 @@
 -- The law over whole lives of books of the code. Assumes nothing.
-use Rattle.std.proofs.Common.{◌≡◌, ℕ, zero, suc, ◌+◌, ◌-◌, ◌<◌, ◌≤◌, min, Bool, true, false, cond, List, [], ◌∷◌, get_or, replicate, None, Ok, Option, Result, sym, refl, ap, ◌∙◌, subst, arith}
+use Rattle.std.proofs.Common.{◌≡◌, ℕ, ◌+◌, ◌-◌, ◌<◌, ◌≤◌, min, Bool, true, false, cond, List, [], ◌∷◌, get_or, replicate, None, Ok, Option, Result, sym, refl, ap, ◌∙◌, subst, arith}
 use Rattle.share.specs.Rule.{total}
 use Rattle.resource.specs.declared.resource.Resource.{Ghosts}
 use Rattle.auction.specs.Lots.{Listing, all_fail}
@@ -23,15 +23,11 @@ use Rattle.book.specs.declared.calls.Call.TheVariants as call
 use Rattle.book.specs.declared.phase.Phase.TheVariants.{Resting, Bidding, Charging}
 use Rattle.book.proofs.Free.{loss_at, amounts, has, free-still}
 use Rattle.book.proofs.Seating.{stand-in_order, proportional}
+use Rattle.book.proofs.Sums.{all-alike}
 use Rattle.book.proofs.Steps.{Fit, Listed, Sound, at_rest, at_bids, at_charge, either_way, step, stands-whole, charge-within}
 
-no_one : (n i : ℕ) → (fund_of (get_or (replicate n None) i None) ≡ 0) × (assessment_of (get_or (replicate n None) i None) ≡ 0)
-no_one zero i = (refl, refl)
-no_one (suc n) zero = (refl, refl)
-no_one (suc n) (suc i) = no_one n i
-
 made-sound : (c : ℕ) → Sound (made c)
-made-sound c = at_rest (replicate 32 None) c (record { places = refl; funded = λ i. (omega (arith, (no_one 32 i).0), omega (arith, (no_one 32 i).1)) })
+made-sound c = at_rest (replicate 32 None) c (record { places = refl; funded = λ i. (omega (arith, ap fund_of (all-alike 32 i None)), omega (arith, ap assessment_of (all-alike 32 i None))) })
 
 made-free : (c : ℕ) → free (made c) ≡ c
 unfolding amounts has
@@ -47,13 +43,8 @@ keeps g c (lived b d k a h life does) =
     (one.sound, omega (arith, one.money, old.1))
 
 -- outside Charging nothing stands
-pub zeros : (n i : ℕ) → ◌≡◌ {A = ℕ} (get_or (replicate n 0) i 0) 0
-zeros zero i = refl
-zeros (suc n) zero = refl
-zeros (suc n) (suc i) = zeros n i
-
 pub nothing-stands : (i : ℕ) → ◌≡◌ {A = ℕ} (get_or (0 ∷ 0 ∷ 0 ∷ 0 ∷ 0 ∷ 0 ∷ 0 ∷ []) i 0) 0
-nothing-stands i = zeros 7 i
+nothing-stands i = all-alike 7 i 0
 
 ordered : (s t : ℕ) → 0 < s → s < t → (b : State) → Sound b → 0 < get_or (standings b) (t - 1) 0 → get_or (standings b) (s - 1) 0 ≡ get_or (capacities b) (s - 1) 0
 ordered s t low lt b (at_rest r c e) some = absurd (omega (arith, nothing-stands (t - 1)))

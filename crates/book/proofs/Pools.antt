@@ -1,5 +1,5 @@
 -- The pools that members fill. Assumes nothing.
-use Rattle.std.proofs.Common.{◌≡◌, ℕ, zero, suc, ◌≤◌, true, List, length, get_or, replicate, is_ok, Ok, Err, Result, refl, ap, ◌∙◌, arith}
+use Rattle.std.proofs.Common.{◌≡◌, ℕ, ◌≤◌, true, List, length, replicate, is_ok, Ok, Err, Result, refl, ap, ◌∙◌, arith}
 use Rattle.share.specs.Refusals.{numbered, unless, number}
 use Rattle.share.specs.declared.refusal.Refusal.{Refusal}
 use Rattle.resource.specs.Payers.{Light, pool_refusal}
@@ -13,6 +13,7 @@ use Rattle.auction.specs.declared.filling.Money.{Money}
 use Rattle.auction.specs.declared.filling.Money.TheVariants.{Fund, Assessment}
 use Rattle.auction.specs.declared.filling.Tier.{Tier}
 use Rattle.auction.specs.declared.filling.Tier.TheVariants.{First, Second, Third}
+use Rattle.book.proofs.Sums.{all-alike}
 use Rattle.book.specs.State.{pools_capacity, pools_standing}
 use Rattle.book.specs.declared.seats.Pools.{Pools}
 
@@ -35,13 +36,8 @@ light-column f Assessment Second h k i = (h k).4
 light-column f Assessment Third h k i = (h k).5
 
 -- nothing is light
-light-zeros : (n k : ℕ) → get_or (replicate n 0) k 0 ≤ 100000000
-light-zeros zero k = omega arith
-light-zeros (suc n) zero = omega arith
-light-zeros (suc n) (suc k) = light-zeros n k
-
 pub light-nobody : Light (replicate 32 0)
-light-nobody k h = light-zeros 32 k
+light-nobody k h = omega (arith, all-alike {X = ℕ} 32 k 0)
 
 -- what a pool can stand for, and what it stands for, at most
 pub pool-bounds : (p : Pool) → (capacity_of p ≤ 3200000000) × (standing_of p ≤ 3200000000)

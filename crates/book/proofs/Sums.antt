@@ -1,5 +1,5 @@
 -- Sums over the numbers of a roster, and shares at every place. Assumes nothing.
-use Rattle.std.proofs.Common.{◌≡◌, ℕ, zero, suc, ◌+◌, ◌-◌, ◌*◌, ◌/◌, ◌<◌, ◌≤◌, List, [], ◌∷◌, map, length, get_or, None, sum_by, Option, sym, refl, ap, ◌∙◌, ap₂, inl, inr, arith}
+use Rattle.std.proofs.Common.{◌≡◌, ℕ, zero, suc, ◌+◌, ◌-◌, ◌*◌, ◌/◌, ◌<◌, ◌≤◌, List, [], ◌∷◌, map, length, get_or, replicate, None, sum_by, Option, sym, refl, ap, ◌∙◌, ap₂, inl, inr, arith}
 use Rattle.std.specs.List.{range_with_len}
 use Rattle.std.proofs.lemmas.List.FromFn.{fill_by_all}
 use Rattle.std.proofs.lemmas.List.{take_all, get_or_past}
@@ -10,6 +10,12 @@ use Rattle.share.specs.Rule.{total, upto, share_of}
 use Rattle.share.proofs.Shares.{adds_up_within, within-weight, near}
 use Rattle.auction.specs.Roster.{place, numbers}
 use Rattle.auction.specs.declared.member.Member.{Member}
+
+-- a list of one element alone has it at every place, and where it ends
+pub all-alike : {X : Type 0} (n i : ℕ) (x : X) → get_or (replicate n x) i x ≡ x
+all-alike zero i x = refl
+all-alike (suc n) zero x = refl
+all-alike (suc n) (suc i) x = all-alike n i x
 
 pub sum_by-same : {X : Type 0} (f g : X → ℕ) (xs : List X) → ((x : X) → f x ≡ g x) → sum_by f xs ≡ sum_by g xs
 sum_by-same f g [] e = refl
