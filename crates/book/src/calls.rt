@@ -1,4 +1,4 @@
-// The ten calls with the numbers that they hand over.
+// The ten calls with the numbers that they hand over, each number by itself, as a line of the console has it.
 use auction::offer::Offer;
 use lot::bid::Kind;
 use share::units::Dollars;

@@ -46,7 +46,7 @@ fn brought(filling: &Filling, money: Money, tier: Tier) -> Pool
     pool(&filling.column(money, tier))
 }
 
-// Has a pool stand for what it can of what is left of a loss, and says what it leaves.
+// Has a pool stand for what it can of what is left of a loss, and says what it leaves. `fill` of any resource does not promise that the payers stay.
 pub(crate) fn pour(pool: &mut Pool, left: Dollars) -> Dollars
     ensures rest { result.0 ≡ left.0 - capacity_of pool.old }
     ensures after { stake_of pool.new ≡ poured pool.old left.0 }
@@ -56,7 +56,7 @@ pub(crate) fn pour(pool: &mut Pool, left: Dollars) -> Dollars
     left - stands
 }
 
-// What a member bears in a pool.
+// What a member bears in a pool. Numbers count from 1; a type that says so would only be made here, from the plain number that a call hands over.
 pub(crate) fn borne(pool: &Pool, member: u16) -> Dollars
     requires { 0 < member }
     ensures value { result.0 ≡ share_of (standing_of pool.now) (payers_of pool.now) (member - 1) }
@@ -157,7 +157,7 @@ impl Seats {
         }
     }
 
-    // The pool in a seat; none in the fourth, and none where there is no seat.
+    // The pool in a seat, by a table: the seats are numbered past the house. None in the fourth, and none where there is no seat.
     pub(crate) fn pool(&self, seat: u16) -> Option<&Pool>
         ensures { InSeat (stakes_of self.now) seat result }
     {
