@@ -45,9 +45,9 @@ impl Houses {
     fn print_seats<W: Write>(&self, out: &mut W) -> io::Result<()> {
         for seat in 1..=7 {
             write!(out, "seat {seat} -> ")?;
-            printing::print_seat(out, self.deposit.seat(seat))?;
+            printing::print_answer(out, self.deposit.seat(seat))?;
             write!(out, " | ")?;
-            printing::print_seat(out, self.pool.seat(seat))?;
+            printing::print_answer(out, self.pool.seat(seat))?;
             writeln!(out, "")?;
         }
         Ok(())

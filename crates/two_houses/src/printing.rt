@@ -1,9 +1,9 @@
 // Calls and answers in words.
 use auction::offer::Offer;
-use book::answers::{Answer, Seat};
 use book::calls::Call;
 use lot::bid::Kind;
 use share::refusal::Refusal;
+use std::fmt::Display;
 use std::io;
 use std::io::Write;
 
@@ -64,55 +64,13 @@ fn print_refusal<W: Write>(out: &mut W, refusal: Refusal) -> io::Result<()> {
     write!(out, "refused {number}: {reason}")
 }
 
-// What a call answers.
-pub(crate) fn print_answer<W: Write>(
+// What a call or a question answers.
+pub(crate) fn print_answer<W: Write, A: Display + Drop>(
     out: &mut W,
-    answer: Result<Answer, Refusal>,
+    answer: Result<A, Refusal>,
 ) -> io::Result<()> {
     match answer {
-        Ok(Answer::Done) => write!(out, "ok"),
-        Ok(Answer::Entry(entry)) => write!(out, "entry {entry}"),
-        Ok(Answer::Released(member)) => {
-            write!(
-                out,
-                "fund {} assessment {}",
-                member.fund.0, member.assessment.0
-            )
-        }
-        Ok(Answer::Closed(closing)) => {
-            write!(
-                out,
-                "failed {} capacity {}",
-                closing.failed, closing.capacity.0
-            )
-        }
-        Ok(Answer::Covered(covering)) => {
-            write!(
-                out,
-                "covered {} uncovered {}",
-                covering.covered.0, covering.uncovered.0
-            )
-        }
-        Ok(Answer::Returned(returning)) => {
-            write!(
-                out,
-                "returned {} surplus {}",
-                returning.returned.0, returning.surplus.0
-            )
-        }
-        Ok(Answer::Concluded(loss)) => write!(out, "net-loss {}", loss.0),
-        Err(refusal) => print_refusal(out, refusal),
-    }
-}
-
-// What a seat can stand for, and what it stands for.
-pub(crate) fn print_seat<W: Write>(out: &mut W, answer: Result<Seat, Refusal>) -> io::Result<()> {
-    match answer {
-        Ok(seat) => write!(
-            out,
-            "capacity {} standing {}",
-            seat.capacity.0, seat.standing.0
-        ),
+        Ok(answer) => write!(out, "{answer}"),
         Err(refusal) => print_refusal(out, refusal),
     }
 }
