@@ -3,7 +3,7 @@ use Rattle.std.specs.Prelude.{◌≡◌, ℕ, ◌+◌, ◌-◌, ◌<◌, ◌≤�
 use Rattle.std.proofs.Common.{sym, ap, ◌∙◌, zero-add, arith}
 use Rattle.std.specs.List.{range_with_len}
 use Rattle.std.proofs.lemmas.List.FromFn.{length-map-range_with_len, get_or-map-range_with_len, map-range_with_len_more}
-use Rattle.std.proofs.lemmas.List.{length-map, length-take, take_all, take_more_set, map-set, get_or-map, get_or-drop, drop-drop, drop-set-lt}
+use Rattle.std.proofs.lemmas.List.{length-map, length-take, take_all, take_more_set, map-set, get_or-map, get_or-take, get_or-drop, drop-drop, drop-set-lt}
 use Rattle.std.proofs.Math.Seq.{take-append_seam}
 use Rattle.std.proofs.lemmas.List.Folds.{list_any_none, list_any_at}
 use Rattle.std.proofs.lemmas.List.Elements.{All-from_get_or}
@@ -47,6 +47,12 @@ length-taken p = simp length-take (omega (arith, p.few, p.whole))
 
 pub length-payers : (p : Pool) → length (payers_of p) ≡ p.count
 length-payers p = length-map (take p.count p.weights) worth ∙ length-taken p
+
+-- a weight of a pool, as the array has it
+pub get_or-front : (n : ℕ) (ws : List Dollars) (i : ℕ) → i < n → n ≤ length ws → slice_index (first_weights n ws) i ≡ (get_or ws i (record { 0 = 0 })).0
+get_or-front n ws i h long =
+    let inside : i < length (take n ws) = simp length-take (omega arith) in
+    get_or-map worth (take n ws) i (record { 0 = 0 }) 0 inside ∙ ap worth (get_or-take n ws i (record { 0 = 0 }) h)
 
 -- which pools are taken
 pub light-taken : (ws : List ℕ) → 0 < length ws → length ws ≤ 32 → heavy ws ≡ false → pool_refusal ws ≡ 0
