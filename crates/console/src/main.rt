@@ -1,9 +1,7 @@
 // Reads commands for a book from standard input, one a line, and prints one line for each.
 #![tactic(auto)]
 
-use book::answers::{Answer, Holding, Seat};
 use book::book::Book;
-use book::phase::Phase;
 use command::command::Command;
 use command::question::Question;
 use lot::bid::Price;
@@ -11,6 +9,7 @@ use lot::class::Class;
 use resource::deposit::Deposit;
 use share::refusal::Refusal;
 use share::units::{Dollars, Parts};
+use std::fmt::Display;
 use std::io;
 use std::io::{BufRead, BufReader, BufWriter, Write};
 use words::{count_words, split_word};
@@ -63,8 +62,8 @@ impl Console {
     fn ask<W: Write>(&self, out: &mut W, question: Question) -> io::Result<()> {
         let book = &self.book;
         match question {
-            Question::Phase => print_phase(out, book.phase()),
-            Question::Member(member) => print_holding(out, book.member(member)),
+            Question::Phase => writeln!(out, "{}", book.phase()),
+            Question::Member(member) => print_answer(out, book.member(member)),
             Question::Requirement { member, lot } => {
                 print_parts(out, book.requirement(member, lot))
             }
@@ -72,7 +71,7 @@ impl Console {
             Question::Allocation { lot, entry } => print_parts(out, book.allocation(lot, entry)),
             Question::Average { member, lot } => print_price(out, book.average(member, lot)),
             Question::Class { member, lot } => print_class(out, book.class(member, lot)),
-            Question::Seat(seat) => print_seat(out, book.seat(seat)),
+            Question::Seat(seat) => print_answer(out, book.seat(seat)),
             Question::Bears { member, seat } => print_dollars(out, book.bears(member, seat)),
         }
     }
@@ -96,72 +95,13 @@ fn print_refusal<W: Write>(out: &mut W, refusal: Refusal) -> io::Result<()> {
     writeln!(out, "refused {number}: {reason}")
 }
 
-// What a call answers.
-fn print_answer<W: Write>(out: &mut W, answer: Result<Answer, Refusal>) -> io::Result<()> {
+// What a call or a question answers.
+fn print_answer<W: Write, A: Display + Drop>(
+    out: &mut W,
+    answer: Result<A, Refusal>,
+) -> io::Result<()> {
     match answer {
-        Ok(Answer::Done) => writeln!(out, "ok"),
-        Ok(Answer::Entry(entry)) => writeln!(out, "entry {entry}"),
-        Ok(Answer::Released(member)) => {
-            writeln!(
-                out,
-                "fund {} assessment {}",
-                member.fund.0, member.assessment.0
-            )
-        }
-        Ok(Answer::Closed(closing)) => {
-            writeln!(
-                out,
-                "failed {} capacity {}",
-                closing.failed, closing.capacity.0
-            )
-        }
-        Ok(Answer::Covered(covering)) => {
-            writeln!(
-                out,
-                "covered {} uncovered {}",
-                covering.covered.0, covering.uncovered.0
-            )
-        }
-        Ok(Answer::Returned(returning)) => {
-            writeln!(
-                out,
-                "returned {} surplus {}",
-                returning.returned.0, returning.surplus.0
-            )
-        }
-        Ok(Answer::Concluded(loss)) => writeln!(out, "net-loss {}", loss.0),
-        Err(refusal) => print_refusal(out, refusal),
-    }
-}
-
-fn print_phase<W: Write>(out: &mut W, phase: Phase) -> io::Result<()> {
-    let name = match phase {
-        Phase::Resting => "Resting",
-        Phase::Bidding => "Bidding",
-        Phase::Charging => "Charging",
-    };
-    writeln!(out, "{name}")
-}
-
-fn print_holding<W: Write>(out: &mut W, answer: Result<Holding, Refusal>) -> io::Result<()> {
-    match answer {
-        Ok(has) => {
-            write!(out, "fund {} assessment {}", has.fund.0, has.assessment.0)?;
-            let fund = has.fund_borne.0;
-            let assessment = has.assessment_borne.0;
-            writeln!(out, " fund-borne {fund} assessment-borne {assessment}")
-        }
-        Err(refusal) => print_refusal(out, refusal),
-    }
-}
-
-fn print_seat<W: Write>(out: &mut W, answer: Result<Seat, Refusal>) -> io::Result<()> {
-    match answer {
-        Ok(seat) => writeln!(
-            out,
-            "capacity {} standing {}",
-            seat.capacity.0, seat.standing.0
-        ),
+        Ok(answer) => writeln!(out, "{answer}"),
         Err(refusal) => print_refusal(out, refusal),
     }
 }
