@@ -38,7 +38,7 @@ fn pool(weights: &[Dollars]) -> Pool
     Pool::new(weights).unwrap()
 }
 
-// A pool with what each member brings to it.
+// A pool with what each member brings to it. That nobody brings too much is asked for, here and of what fills more pools: an auction proves it of its whole outcome, and not of each filling.
 fn brought(filling: &Filling, money: Money, tier: Tier) -> Pool
     requires { WithinLimits (weights_by filling.now) }
     ensures { stake_of result ≡ fresh (column_of money tier filling.now) }
