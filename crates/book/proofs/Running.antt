@@ -28,10 +28,6 @@ added-push h (j ∷ ks) [] k a e = absurd (omega arith)
 added-push h (j ∷ ks) (r ∷ rs) k a e = added-push (noted j r ∷ h) ks rs k a (omega arith)
 
 module _ {R : Type 0} (g : Ghosts R) (b : Book R) where
-  -- no call yet
-  pub ran-none : Ran g b [] [] b
-  ran-none = record { answered = refl; moved = refl; lives = λ c h life. life }
-
   -- one more
   ran-push : (ks : List Call) (rs : List (Result Answer Refusal)) (d e : Book R) (k : Call) (a : Result Answer Refusal) → length ks ≡ length rs → Ran g b ks rs d → Does g d k a e → Ran g b (ks ++ k ∷ []) (rs ++ a ∷ []) e
   ran-push ks rs d e k a same so_far does = record {
