@@ -47,7 +47,7 @@ impl Auction {
         let count = usize::from(offer.count);
         let terms = &offer.terms[..count];
         let mut lots = [Lot::blank(); 4];
-        // By an index: of what is written through `iter_mut` and `zip`, a proof learns nothing.
+        // By an index: of what is written through `iter_mut` and `zip`, a proof learns nothing, so that the ghost fields of the auction would stay open.
         for (i, lot) in terms.iter().enumerate() {
             lots[i] = Lot::new(*lot)?;
         }

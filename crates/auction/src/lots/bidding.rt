@@ -60,7 +60,7 @@ impl Lot {
     }
 
     // Makes a member's requirement 0.
-    // A test and an index: of the element that `get_mut` of an array lends, a proof learns nothing.
+    // A test and an index: of the element that `get_mut` of an array lends, a proof learns nothing, so that the ghost fields and the promise would stay open.
     pub(crate) fn excuse(&mut self, member: u16)
         ensures { listing_of self.new ≡ excusing member (listing_of self.old) }
     {

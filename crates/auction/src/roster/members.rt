@@ -58,7 +58,7 @@ impl Roster {
     }
 
     // Puts another entry at a number.
-    // A test and an index: of the element that `get_mut` of an array lends, a proof learns nothing.
+    // A test and an index: of the element that `get_mut` of an array lends, a proof learns nothing, so that the ghost fields and the promise would stay open.
     fn put(&mut self, member: u16, entry: Option<Member>)
         requires fund { fund_of entry ≤ most_amount }
         requires assessment { assessment_of entry ≤ most_amount }
