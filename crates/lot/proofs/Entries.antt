@@ -1,12 +1,11 @@
 -- What becomes of the bids of a lot when one more comes. Assumes nothing.
-use Rattle.std.proofs.Common.{◌≡◌, ℕ, zero, suc, ◌+◌, ◌<◌, true, cond, eqb, List, [], ◌∷◌, ◌++◌, length, take, set, Ok, Err, ◌∙◌, arith}
+use Rattle.std.proofs.Common.{◌≡◌, ◌+◌, ◌<◌, true, [], ◌∷◌, ◌++◌, length, take, set, Ok, arith}
 use Rattle.std.proofs.lemmas.List.{length-take, take_more_set}
-use Rattle.std.proofs.lemmas.Bool.{ne_eqb}
 use Rattle.std.proofs.lemmas.Bool.Decides.{nat_tests}
 use Rattle.lot.proofs.Taken.{taken-push}
 use Rattle.share.proofs.Answered.{unless-ok}
 use Rattle.share.specs.Refusals.{unless}
-use Rattle.lot.specs.Entering.{refusal, taken_after, entered}
+use Rattle.lot.specs.Entering.{refusal, taken_after}
 use Rattle.lot.specs.Lots.{entries_of}
 use Rattle.lot.specs.declared.bid.Bid.{Bid}
 use Rattle.lot.specs.declared.bids.Bids.{Bids}

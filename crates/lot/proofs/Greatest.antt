@@ -1,11 +1,9 @@
 -- The greatest of the prices of bids, as a chain of iterators finds it. Assumes nothing.
-use Rattle.std.proofs.Common.{◌≡◌, ℕ, zero, suc, max, ◌<◌, Bool, true, false, cond, List, [], ◌∷◌, map, fold, Some, None, Option, refl, ap, ◌∙◌, arith}
+use Rattle.std.proofs.Common.{◌≡◌, Bool, true, false, cond, List, [], ◌∷◌, map, fold, Some, None, Option, refl, ap, ◌∙◌, arith}
 use lib.Signed.{lt_z}
 use Rattle.std.proofs.lemmas.Int.{ints}
 use Rattle.std.specs.List.{filter, reduce}
-use Rattle.std.specs.Ordering.{max_by_ordering, int_cmp, ord_max}
-use Rattle.std.specs.Option.{option_cmp}
-use Rattle.lot.specs.Average.{averaged}
+use Rattle.std.specs.Ordering.{max_by_ordering, int_cmp}
 use Rattle.lot.specs.Price.{better, greatest}
 use Rattle.lot.specs.declared.bid.Bid.{Bid}
 use Rattle.lot.specs.declared.bid.Price.{Price}

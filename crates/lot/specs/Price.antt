@@ -32,6 +32,10 @@ abbrev pub greatest : (Bid → Bool) → List Bid → Option Price
 greatest passes [] = None
 greatest passes (b ∷ bs) = better (price_if (passes b) b) (greatest passes bs)
 
+-- a price is the greatest of those of the bids that pass a test, which is known by what it answers of a bid
+abbrev pub IsGreatest : (Bid → Bool → Type 0) → List Bid → Option Price → Type 0
+IsGreatest Answers bs r = (passes : Bid → Bool) → ((b : Bid) (t : Bool) → Answers b t → t ≡ passes b) → r ≡ greatest passes bs
+
 -- whether a bid is a Standard bid of theirs at whose price these bids reach a number of parts
 abbrev pub reaches : Whose → ℕ → List Bid → Bid → Bool
 reaches w m bs b = standard_of w b && nat_le m (demand w b.price bs)

@@ -1,7 +1,8 @@
 // The price of a lot.
 ghost use Rattle.lot.specs.Lots.{entries_of};
 ghost use Rattle.lot.specs.Bids.{all_asked};
-ghost use Rattle.lot.specs.Price.{reaches, reached, all_or_nothing_price, clearing, price_of, lot_price, PriceLaw};
+ghost use Rattle.lot.specs.Price.{reaches, reached, all_or_nothing_price, clearing, price_of, lot_price, IsGreatest, PriceLaw};
+ghost use Rattle.std.specs.Fn.{FnReturnsAt};
 ghost use Rattle.std.specs.Prelude.{◌≡◌};
 
 use super::Bids;
@@ -35,26 +36,30 @@ impl Bids {
             && parts <= self.asked(whose, Level::AtOrBetter(bid.price))
     }
 
+    // The greatest price of the bids that pass a test.
+    fn greatest<F: Fn(&Bid) -> bool>(&self, passes: F) -> Option<Price>
+        requires { F.IsAlwaysCallable passes }
+        ensures { IsGreatest (FnReturnsAt F.Fn passes) (entries_of self.now) result }
+    {
+        self.entries()
+            .iter()
+            .filter(|bid| passes(bid))
+            .map(|bid| bid.price)
+            .max()
+    }
+
     // The greatest price of their Standard bids at which these reach a number of parts.
     pub(crate) fn reached(&self, whose: Whose, parts: u32) -> Option<Price>
         ensures { result ≡ reached whose parts (entries_of self.now) }
     {
-        self.entries()
-            .iter()
-            .filter(|bid| self.reaches(whose, parts, bid))
-            .map(|bid| bid.price)
-            .max()
+        self.greatest(|bid| self.reaches(whose, parts, bid))
     }
 
     // The greatest price of their All or Nothing bids.
     pub(crate) fn all_or_nothing_price(&self, whose: Whose) -> Option<Price>
         ensures { result ≡ all_or_nothing_price whose (entries_of self.now) }
     {
-        self.entries()
-            .iter()
-            .filter(|bid| whose.has_all_or_nothing(bid))
-            .map(|bid| bid.price)
-            .max()
+        self.greatest(|bid| whose.has_all_or_nothing(bid))
     }
 
     // How the lot is cleared; none where it fails. The kind is All or Nothing if its price is at least the Standard price or stands alone.
