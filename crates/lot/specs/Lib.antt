@@ -10,3 +10,4 @@ pub mod Lots
 pub mod Price
 pub mod Ranges
 pub mod Rungs
+pub mod Texts

@@ -2,8 +2,6 @@
 ghost use Rattle.lot.specs.Figures.{Figures};
 
 // Each figure is what the definitions give.
-pub fn figures() -> u8
+pub fn figures()
     ensures { Figures }
-{
-    0
-}
+{}

@@ -1,8 +1,9 @@
 // The names of the kinds of bids.
 ghost use Rattle.lot.specs.KindNames.{kind_name, kind_named};
-ghost use Rattle.std.specs.Prelude.{◌≡◌};
+ghost use Rattle.std.specs.Prelude.{◌≡◌, Some};
 
 use crate::bid::Kind;
+use std::fmt;
 
 impl Kind {
     // The name of a kind.
@@ -24,5 +25,13 @@ impl Kind {
             "all" => Some(Kind::AllOrNothing),
             _ => None,
         }
+    }
+}
+
+impl fmt::Display for Kind {
+    ghost output = { λ kind. Some (kind_name kind) };
+
+    fn fmt<W: fmt::Write>(&self, f: &mut fmt::Formatter<W>) -> fmt::Result {
+        f.write_str(self.name())
     }
 }

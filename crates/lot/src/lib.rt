@@ -10,3 +10,4 @@ mod kind_names;
 pub mod pri;
 #[cfg(test)]
 mod tests;
+mod texts;

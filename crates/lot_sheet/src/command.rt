@@ -135,8 +135,7 @@ fn bid(rest: &[u8]) -> Result<Command, Fault>
 }
 
 // What holds of every line of a lot sheet.
-pub fn sheet_laws() -> u8
+pub fn sheet_laws()
     ensures { SheetLaw }
 {
-    0
 }

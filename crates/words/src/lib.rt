@@ -151,8 +151,6 @@ impl Number for i32 {
 }
 
 // What holds of every line and of every number.
-pub fn words_laws() -> u8
+pub fn words_laws()
     ensures { WordsLaw }
-{
-    0
-}
+{}
