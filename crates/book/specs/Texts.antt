@@ -1,5 +1,7 @@
 -- How answers are printed. Assumes nothing.
-use Rattle.std.specs.Prelude.{ℕ, List, ◌++◌, codes, decimal}
+use Rattle.std.specs.Prelude.{ℕ, List, ◌++◌, Some, Ok, Err, Option, Result, codes, decimal}
+use Rattle.share.specs.Refusals.{shown}
+use Rattle.share.specs.declared.refusal.Refusal.{Refusal}
 use Rattle.book.specs.declared.answers.Answer.{Answer}
 use Rattle.book.specs.declared.answers.Answer.TheVariants.{Done, Entry, Released, Closed, Covered, Returned, Concluded}
 use Rattle.book.specs.declared.answers.Holding.{Holding}
@@ -16,6 +18,11 @@ answer_text (Closed c) = codes "failed " ++ (decimal c.failed ++ (codes " capaci
 answer_text (Covered c) = codes "covered " ++ (decimal c.covered.0 ++ (codes " uncovered " ++ decimal c.uncovered.0))
 answer_text (Returned r) = codes "returned " ++ (decimal r.returned.0 ++ (codes " surplus " ++ decimal r.surplus.0))
 answer_text (Concluded n) = codes "net-loss " ++ decimal n.0
+
+-- an answer by its own text, or a refusal
+abbrev pub reply_text : {A : Type 0} → (A → Option (List ℕ)) → Result A Refusal → Option (List ℕ)
+reply_text text (Ok a) = text a
+reply_text text (Err e) = Some (shown e)
 
 -- what a member has and bears
 abbrev pub holding_text : Holding → List ℕ

@@ -1,8 +1,9 @@
 // What calls and questions answer, and how it is printed.
-ghost use Rattle.book.specs.Texts.{answer_text, holding_text, seat_text};
+ghost use Rattle.book.specs.Texts.{answer_text, holding_text, reply_text, seat_text};
 ghost use Rattle.std.specs.Prelude.{Some};
 
 use auction::member::Member;
+use share::refusal::Refusal;
 use share::units::Dollars;
 use std::fmt;
 
@@ -57,6 +58,21 @@ pub struct Holding {
 pub struct Seat {
     pub capacity: Dollars,
     pub standing: Dollars,
+}
+
+// What a call or a question answers, or why it is refused, to be printed.
+#[derive(Drop)]
+pub struct Reply<A>(pub Result<A, Refusal>);
+
+impl<A: fmt::Display> fmt::Display for Reply<A> {
+    ghost output = { λ reply. reply_text A.output reply.0 };
+
+    fn fmt<W: fmt::Write>(&self, f: &mut fmt::Formatter<W>) -> fmt::Result {
+        match &self.0 {
+            Ok(answer) => write!(f, "{answer}"),
+            Err(refusal) => write!(f, "{refusal}"),
+        }
+    }
 }
 
 impl fmt::Display for Answer {

@@ -1,18 +1,15 @@
 // Reads commands for a book from standard input, one a line, and prints one line for each.
 #![tactic(auto)]
 
+use book::answers::Reply;
 use book::book::Book;
 use command::command::Command;
 use command::question::Question;
-use lot::bid::Price;
-use lot::class::Class;
 use resource::deposit::Deposit;
-use share::refusal::Refusal;
-use share::units::{Dollars, Parts};
-use std::fmt::Display;
-use std::io;
+use share::units::Dollars;
 use std::io::{BufRead, BufReader, BufWriter, Write};
-use words::{count_words, split_word};
+use std::{fmt, io};
+use words::Words;
 
 // What the house of the first book puts in.
 const FIRST_HOUSE: u64 = 50_000_000;
@@ -34,7 +31,7 @@ impl Console {
             }
             Ok(Command::Call(call)) => {
                 echo(out, line)?;
-                print_answer(out, self.book.apply::<Deposit>(&call))
+                writeln!(out, "{}", Reply(self.book.apply::<Deposit>(&call)))
             }
             Ok(Command::Ask(question)) => {
                 echo(out, line)?;
@@ -42,8 +39,7 @@ impl Console {
             }
             Err(fault) => {
                 echo(out, line)?;
-                let reason = fault.reason();
-                writeln!(out, "error: {reason}")
+                writeln!(out, "error: {fault}")
             }
         }
     }
@@ -55,7 +51,7 @@ impl Console {
                 self.book = Book::new(house);
                 writeln!(out, "ok")
             }
-            Err(refusal) => print_refusal(out, refusal),
+            Err(refusal) => writeln!(out, "{refusal}"),
         }
     }
 
@@ -63,86 +59,50 @@ impl Console {
         let book = &self.book;
         match question {
             Question::Phase => writeln!(out, "{}", book.phase()),
-            Question::Member(member) => print_answer(out, book.member(member)),
+            Question::Member(member) => writeln!(out, "{}", Reply(book.member(member))),
             Question::Requirement { member, lot } => {
-                print_parts(out, book.requirement(member, lot))
+                writeln!(out, "{}", Reply(book.requirement(member, lot)))
             }
-            Question::Price(lot) => print_price(out, book.price(lot)),
-            Question::Allocation { lot, entry } => print_parts(out, book.allocation(lot, entry)),
-            Question::Average { member, lot } => print_price(out, book.average(member, lot)),
-            Question::Class { member, lot } => print_class(out, book.class(member, lot)),
-            Question::Seat(seat) => print_answer(out, book.seat(seat)),
-            Question::Bears { member, seat } => print_dollars(out, book.bears(member, seat)),
+            Question::Price(lot) => writeln!(out, "{}", Reply(book.price(lot).map(OrNone))),
+            Question::Allocation { lot, entry } => {
+                writeln!(out, "{}", Reply(book.allocation(lot, entry)))
+            }
+            Question::Average { member, lot } => {
+                writeln!(out, "{}", Reply(book.average(member, lot).map(OrNone)))
+            }
+            Question::Class { member, lot } => {
+                writeln!(out, "{}", Reply(book.class(member, lot).map(OrNone)))
+            }
+            Question::Seat(seat) => writeln!(out, "{}", Reply(book.seat(seat))),
+            Question::Bears { member, seat } => writeln!(
+                out,
+                "{}",
+                Reply(book.bears(member, seat))
+            ),
+        }
+    }
+}
+
+// What there is, or the word none, to be printed.
+#[derive(Drop)]
+struct OrNone<T>(Option<T>);
+
+impl<T: fmt::Display> fmt::Display for OrNone<T> {
+    fn fmt<W: fmt::Write>(&self, f: &mut fmt::Formatter<W>) -> fmt::Result {
+        match &self.0 {
+            Some(value) => write!(f, "{value}"),
+            None => write!(f, "none"),
         }
     }
 }
 
 // Prints the words of a line, byte for byte, with a space behind each, and the arrow.
 fn echo<W: Write>(out: &mut W, line: &[u8]) -> io::Result<()> {
-    let mut rest = line;
-    for _ in 0..count_words(line) {
-        let (word, behind) = split_word(rest);
+    for word in Words::new(line) {
         out.write_all(word)?;
         out.write_all(b" ")?;
-        rest = behind;
     }
     out.write_all(b"-> ")
-}
-
-fn print_refusal<W: Write>(out: &mut W, refusal: Refusal) -> io::Result<()> {
-    let number = refusal.number();
-    let reason = refusal.reason();
-    writeln!(out, "refused {number}: {reason}")
-}
-
-// What a call or a question answers.
-fn print_answer<W: Write, A: Display + Drop>(
-    out: &mut W,
-    answer: Result<A, Refusal>,
-) -> io::Result<()> {
-    match answer {
-        Ok(answer) => writeln!(out, "{answer}"),
-        Err(refusal) => print_refusal(out, refusal),
-    }
-}
-
-fn print_dollars<W: Write>(out: &mut W, answer: Result<Dollars, Refusal>) -> io::Result<()> {
-    match answer {
-        Ok(dollars) => writeln!(out, "{}", dollars.0),
-        Err(refusal) => print_refusal(out, refusal),
-    }
-}
-
-fn print_parts<W: Write>(out: &mut W, answer: Result<Parts, Refusal>) -> io::Result<()> {
-    match answer {
-        Ok(parts) => writeln!(out, "{}", parts.0),
-        Err(refusal) => print_refusal(out, refusal),
-    }
-}
-
-fn print_price<W: Write>(out: &mut W, answer: Result<Option<Price>, Refusal>) -> io::Result<()> {
-    match answer {
-        Ok(Some(price)) => writeln!(out, "{}", price.0),
-        Ok(None) => writeln!(out, "none"),
-        Err(refusal) => print_refusal(out, refusal),
-    }
-}
-
-fn print_class<W: Write>(out: &mut W, answer: Result<Option<Class>, Refusal>) -> io::Result<()> {
-    match answer {
-        Ok(class) => {
-            let name = match class {
-                Some(Class::Senior) => "Senior",
-                Some(Class::Split) => "Split",
-                Some(Class::Subordinate) => "Subordinate",
-                Some(Class::Excused) => "Excused",
-                Some(Class::NonBidding) => "Non-bidding",
-                None => "none",
-            };
-            writeln!(out, "{name}")
-        }
-        Err(refusal) => print_refusal(out, refusal),
-    }
 }
 
 fn main(rt: HostRuntime) -> io::Result<()> {
@@ -152,8 +112,7 @@ fn main(rt: HostRuntime) -> io::Result<()> {
         book: Book::new(house),
     };
     for line in BufReader::new(rt.alloc(), rt.stdin())?.split(rt.alloc(), b'\n') {
-        let line = line?;
-        console.read(&mut out, line.as_slice())?;
+        console.read(&mut out, line?.as_slice())?;
     }
     out.flush()
 }

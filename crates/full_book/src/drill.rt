@@ -47,7 +47,7 @@ impl Drill {
         let mut drill = Drill {
             book: Book::new(house),
             draws: Draws(1),
-            sums: Sums::new(),
+            sums: Sums::default(),
         };
         for member in 1..=MEMBERS {
             drill.make(Call::Enrol {
@@ -116,7 +116,7 @@ impl Drill {
         if member < MEMBERS {
             size = 240 + self.draws.below(161) as u16;
         }
-        if let Kind::AllOrNothing = kind {
+        if kind == Kind::AllOrNothing {
             price -= 3_000_000;
             size = 10_000;
         }

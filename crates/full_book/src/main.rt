@@ -12,12 +12,11 @@ use drill::Drill;
 
 // The first word behind the program's name; 1 where there is no such number.
 fn auctions(rt: &HostRuntime) -> io::Result<u32> {
-    let mut words = env::args(rt)?;
-    let _ = words.next();
-    match words.next() {
-        Some(word) => Ok(word.as_str().parse::<u32>().unwrap_or(1)),
-        None => Ok(1),
-    }
+    let word = env::args(rt)?.nth(1);
+    Ok(
+        word.and_then(|word| word.as_str().parse().ok())
+            .unwrap_or(1),
+    )
 }
 
 fn main(rt: HostRuntime) -> io::Result<()> {
@@ -28,6 +27,6 @@ fn main(rt: HostRuntime) -> io::Result<()> {
     }
     let mut out = BufWriter::new(rt.alloc(), rt.stdout())?;
     writeln!(out, "auctions {auctions}")?;
-    drill.sums.print(&mut out)?;
+    write!(out, "{}", drill.sums)?;
     out.flush()
 }

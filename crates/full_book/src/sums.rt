@@ -2,11 +2,10 @@
 use book::answers::Answer;
 use share::refusal::Refusal;
 use share::units::Dollars;
-use std::io;
-use std::io::Write;
+use std::fmt;
 
 // A sum for each number that a call answers, of the refusals their count.
-#[derive(Clone, Copy)]
+#[derive(Clone, Copy, Default)]
 pub(crate) struct Sums {
     entries: u64,
     failed: u64,
@@ -26,25 +25,9 @@ fn raise(sum: &mut u64, by: u64) {
 }
 
 impl Sums {
-    pub(crate) fn new() -> Sums {
-        Sums {
-            entries: 0,
-            failed: 0,
-            capacity: 0,
-            covered: 0,
-            uncovered: 0,
-            returned: 0,
-            surplus: 0,
-            loss: 0,
-            top_ups: 0,
-            refused: 0,
-        }
-    }
-
     pub(crate) fn add(&mut self, answer: Result<Answer, Refusal>) {
         match answer {
-            Ok(Answer::Done) => {}
-            Ok(Answer::Released(_)) => {}
+            Ok(Answer::Done | Answer::Released(_)) => {}
             Ok(Answer::Entry(entry)) => raise(&mut self.entries, u64::from(entry)),
             Ok(Answer::Closed(closing)) => {
                 raise(&mut self.failed, u64::from(closing.failed));
@@ -68,17 +51,19 @@ impl Sums {
         let both = fund.0.wrapping_add(assessment.0);
         raise(&mut self.top_ups, both.wrapping_mul(u64::from(member)));
     }
+}
 
-    pub(crate) fn print<W: Write>(&self, out: &mut W) -> io::Result<()> {
-        writeln!(out, "entries {}", self.entries)?;
-        writeln!(out, "failed {}", self.failed)?;
-        writeln!(out, "capacity {}", self.capacity)?;
-        writeln!(out, "covered {}", self.covered)?;
-        writeln!(out, "uncovered {}", self.uncovered)?;
-        writeln!(out, "returned {}", self.returned)?;
-        writeln!(out, "surplus {}", self.surplus)?;
-        writeln!(out, "net-loss {}", self.loss)?;
-        writeln!(out, "top-ups {}", self.top_ups)?;
-        writeln!(out, "refused {}", self.refused)
+impl fmt::Display for Sums {
+    fn fmt<W: fmt::Write>(&self, f: &mut fmt::Formatter<W>) -> fmt::Result {
+        writeln!(f, "entries {}", self.entries)?;
+        writeln!(f, "failed {}", self.failed)?;
+        writeln!(f, "capacity {}", self.capacity)?;
+        writeln!(f, "covered {}", self.covered)?;
+        writeln!(f, "uncovered {}", self.uncovered)?;
+        writeln!(f, "returned {}", self.returned)?;
+        writeln!(f, "surplus {}", self.surplus)?;
+        writeln!(f, "net-loss {}", self.loss)?;
+        writeln!(f, "top-ups {}", self.top_ups)?;
+        writeln!(f, "refused {}", self.refused)
     }
 }

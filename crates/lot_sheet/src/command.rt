@@ -137,5 +137,4 @@ fn bid(rest: &[u8]) -> Result<Command, Fault>
 // What holds of every line of a lot sheet.
 pub fn sheet_laws()
     ensures { SheetLaw }
-{
-}
+{}

@@ -4,14 +4,16 @@
 mod command;
 
 use command::Command;
-use lot::allocations::Allocations;
-use lot::bid::{Bid, Kind};
+use lot::bid::Bid;
 use lot::bids::Bids;
+use lot::bids::price::Cleared;
+use share::units::Parts;
+use std::fmt::Display;
 use std::io;
 use std::io::{BufRead, BufReader, BufWriter, Write};
 
 // A sheet as far as it was read: the lot that is open, and how many lots and lines there were.
-#[derive(Clone, Copy)]
+#[derive(Clone, Copy, Default)]
 struct Sheet {
     open: Option<Bids>,
     lots: u64,
@@ -31,7 +33,7 @@ impl Sheet {
                 Ok(())
             }
             Ok(Command::Bid(bid)) => self.enter(out, bid),
-            Err(fault) => self.error(out, fault.reason()),
+            Err(fault) => self.error(out, fault),
         }
     }
 
@@ -45,18 +47,12 @@ impl Sheet {
                 self.open = Some(bids);
                 Ok(())
             }
-            Err(refusal) => {
-                let line = self.lines;
-                let number = refusal.number();
-                let reason = refusal.reason();
-                writeln!(out, "line {line}: refused {number}: {reason}")
-            }
+            Err(refusal) => writeln!(out, "line {}: {refusal}", self.lines),
         }
     }
 
-    fn error<W: Write>(&self, out: &mut W, reason: &str) -> io::Result<()> {
-        let line = self.lines;
-        writeln!(out, "line {line}: error: {reason}")
+    fn error<W: Write>(&self, out: &mut W, reason: impl Display + Drop) -> io::Result<()> {
+        writeln!(out, "line {}: error: {reason}", self.lines)
     }
 
     // Ends the lot that is open, if there is one: clears it and prints what became of it.
@@ -64,55 +60,37 @@ impl Sheet {
         let Some(bids) = self.open else {
             return Ok(());
         };
-        let lot = self.lots;
-        writeln!(out, "lot {lot}")?;
+        writeln!(out, "lot {}", self.lots)?;
         let allocations = bids.allocations();
-        let mut allocated: u64 = 0;
-        let mut entry: u64 = 0;
-        for (bid, parts) in bids.entries().iter().zip(allocations.parts().iter()) {
-            entry = entry.saturating_add(1);
-            allocated = allocated.saturating_add(u64::from(parts.0));
-            report(out, entry, bid, parts.0)?;
+        for ((entry, bid), parts) in (1..=64u64).zip(bids.entries()).zip(allocations.parts()) {
+            report(out, entry, bid, *parts)?;
         }
         match bids.clearing() {
             None => writeln!(out, "price none")?,
-            Some(cleared) => {
-                let price = cleared.price.0;
-                let kind = kind_name(cleared.by);
-                writeln!(out, "price {price} by {kind}")?;
-            }
+            Some(Cleared { price, by }) => writeln!(out, "price {price} by {by}")?,
         }
+        let allocated = (allocations.parts().iter()).fold(
+            0,
+            |all: u64, parts| all.saturating_add(u64::from(parts.0)),
+        );
         writeln!(out, "allocated {allocated}")
     }
 }
 
-// The word for a kind of bid.
-fn kind_name(kind: Kind) -> &'static str {
-    match kind {
-        Kind::Standard => "standard",
-        Kind::AllOrNothing => "all",
-    }
-}
-
 // Prints a bid and what it gets.
-fn report<W: Write>(out: &mut W, entry: u64, bid: &Bid, parts: u32) -> io::Result<()> {
+fn report<W: Write>(out: &mut W, entry: u64, bid: &Bid, parts: Parts) -> io::Result<()> {
     let member = bid.member;
-    let kind = kind_name(bid.kind);
-    let size = bid.size.0;
-    let price = bid.price.0;
+    let kind = bid.kind;
+    let size = bid.size;
+    let price = bid.price;
     writeln!(out, "bid {entry} {member} {kind} {size} {price} -> {parts}")
 }
 
 fn main(rt: HostRuntime) -> io::Result<()> {
     let mut out = BufWriter::new(rt.alloc(), rt.stdout())?;
-    let mut sheet = Sheet {
-        open: None,
-        lots: 0,
-        lines: 0,
-    };
+    let mut sheet = Sheet::default();
     for line in BufReader::new(rt.alloc(), rt.stdin())?.split(rt.alloc(), b'\n') {
-        let line = line?;
-        sheet.read(&mut out, line.as_slice())?;
+        sheet.read(&mut out, line?.as_slice())?;
     }
     sheet.end(&mut out)?;
     out.flush()

@@ -1,7 +1,7 @@
 // Runs the same calls over a book whose house is a deposit and over one whose house is a pool, and prints both answers.
 #![tactic(auto)]
 
-use book::answers::Answer;
+use book::answers::{Answer, Reply};
 use book::book::Book;
 use book::calls::Call;
 use resource::deposit::Deposit;
@@ -12,6 +12,8 @@ use std::io::{BufWriter, Write};
 
 mod calls;
 mod printing;
+
+use printing::print_call;
 
 // No part has more calls.
 const MOST_CALLS: usize = 32;
@@ -30,13 +32,9 @@ impl Houses {
         let mut other = [Ok(Answer::Done); MOST_CALLS];
         let _ = self.deposit.run::<Pool>(calls, &mut one);
         let _ = self.pool.run::<Deposit>(calls, &mut other);
-        for i in 0..calls.len().min(MOST_CALLS) {
-            printing::print_call(out, calls[i])?;
-            write!(out, " -> ")?;
-            printing::print_answer(out, one[i])?;
-            write!(out, " | ")?;
-            printing::print_answer(out, other[i])?;
-            writeln!(out, "")?;
+        for ((call, one), other) in calls.iter().zip(one).zip(other) {
+            print_call(out, *call)?;
+            writeln!(out, " -> {} | {}", Reply(one), Reply(other))?;
         }
         self.print_seats(out)
     }
@@ -44,11 +42,9 @@ impl Houses {
     // The capacity and the standing of each seat.
     fn print_seats<W: Write>(&self, out: &mut W) -> io::Result<()> {
         for seat in 1..=7 {
-            write!(out, "seat {seat} -> ")?;
-            printing::print_answer(out, self.deposit.seat(seat))?;
-            write!(out, " | ")?;
-            printing::print_answer(out, self.pool.seat(seat))?;
-            writeln!(out, "")?;
+            let one = Reply(self.deposit.seat(seat));
+            let other = Reply(self.pool.seat(seat));
+            writeln!(out, "seat {seat} -> {one} | {other}")?;
         }
         Ok(())
     }
