@@ -1,4 +1,3 @@
-pub mod Arrays
 pub mod Earnings
 pub mod Fillings
 pub mod Funds

@@ -32,14 +32,6 @@ fn first_assessment(member: u16) -> u64 {
     60_000_000 + 700_000 * u64::from(member)
 }
 
-fn terms(weight: u16, requirement: u16, pri: u32) -> Terms {
-    Terms {
-        weight,
-        requirement,
-        pri,
-    }
-}
-
 impl Drill {
     // A book with all its members.
     pub(crate) fn new() -> Drill {
@@ -84,10 +76,10 @@ impl Drill {
         self.make(Call::Open(Offer {
             count: 4,
             terms: [
-                terms(1_000, 10_000, 2_000_000),
-                terms(2_000, 12_000, 4_000_000),
-                terms(3_000, 13_000, 4_000_000),
-                terms(4_000, 15_000, 6_000_000),
+                Terms::new(1_000, 10_000, 2_000_000),
+                Terms::new(2_000, 12_000, 4_000_000),
+                Terms::new(3_000, 13_000, 4_000_000),
+                Terms::new(4_000, 15_000, 6_000_000),
             ],
         }));
     }

@@ -1,3 +1,4 @@
+pub mod Arrays
 pub mod Allotting
 pub mod Averages
 pub mod Entries

@@ -53,31 +53,17 @@ fn recover(amount: u64) -> Call {
     Call::Recover(Dollars(amount))
 }
 
-fn terms(weight: u16, requirement: u16, pri: u32) -> Terms {
-    Terms {
-        weight,
-        requirement,
-        pri,
-    }
-}
-
-const NO_LOT: Terms = Terms {
-    weight: 0,
-    requirement: 0,
-    pri: 0,
-};
-
 fn open_one(first: Terms) -> Call {
     Call::Open(Offer {
         count: 1,
-        terms: [first, NO_LOT, NO_LOT, NO_LOT],
+        terms: [first, Terms::default(), Terms::default(), Terms::default()],
     })
 }
 
 fn open_two(first: Terms, second: Terms) -> Call {
     Call::Open(Offer {
         count: 2,
-        terms: [first, second, NO_LOT, NO_LOT],
+        terms: [first, second, Terms::default(), Terms::default()],
     })
 }
 
@@ -90,8 +76,8 @@ pub(crate) fn first_auction() -> [Call; 17] {
         enrol(4, 50, 40),
         enrol(4, 50, 40),
         open_two(
-            terms(4_000, 10_000, 4_000_000),
-            terms(6_000, 12_000, 2_000_000),
+            Terms::new(4_000, 10_000, 4_000_000),
+            Terms::new(6_000, 12_000, 2_000_000),
         ),
         standard(1, 1, 6_000, -12_000_000),
         standard(2, 1, 3_000, -15_000_000),
@@ -123,7 +109,7 @@ pub(crate) fn second_auction() -> [Call; 8] {
         Call::Conclude,
         top_up(1, 90, 0),
         top_up(2, 70, 5),
-        open_one(terms(10_000, 15_000, 6)),
+        open_one(Terms::new(10_000, 15_000, 6)),
         standard(1, 1, 10_000, 7),
         standard(2, 1, 7_000, 3),
         Call::Close,
@@ -141,7 +127,7 @@ pub(crate) fn third_auction() -> [Call; 5] {
     [
         Call::Conclude,
         Call::Release(4),
-        open_one(terms(10_000, 10_000, 2)),
+        open_one(Terms::new(10_000, 10_000, 2)),
         all_or_nothing(1, 1, -1),
         Call::Close,
     ]

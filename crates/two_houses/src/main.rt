@@ -7,6 +7,7 @@ use book::calls::Call;
 use resource::deposit::Deposit;
 use resource::pool::Pool;
 use share::units::Dollars;
+use std::alloc::Global;
 use std::io;
 use std::io::{BufWriter, Write};
 
@@ -14,9 +15,6 @@ mod calls;
 mod printing;
 
 use printing::print_call;
-
-// No part has more calls.
-const MOST_CALLS: usize = 32;
 
 // Two books over houses of one capacity.
 #[derive(Drop)]
@@ -27,9 +25,9 @@ struct Houses {
 
 impl Houses {
     // Has both books make the calls, and prints what each answers and how their seats stand then.
-    fn run<W: Write>(&mut self, out: &mut W, calls: &[Call]) -> io::Result<()> {
-        let mut one = [Ok(Answer::Done); MOST_CALLS];
-        let mut other = [Ok(Answer::Done); MOST_CALLS];
+    fn run<W: Write>(&mut self, alloc: Global, out: &mut W, calls: &[Call]) -> io::Result<()> {
+        let mut one = vec![in alloc; Ok(Answer::Done); calls.len()]?;
+        let mut other = vec![in alloc; Ok(Answer::Done); calls.len()]?;
         let _ = self.deposit.run::<Pool>(calls, &mut one);
         let _ = self.pool.run::<Deposit>(calls, &mut other);
         for ((call, one), other) in calls.iter().zip(one).zip(other) {
@@ -51,7 +49,8 @@ impl Houses {
 }
 
 fn main(rt: HostRuntime) -> io::Result<()> {
-    let mut out = BufWriter::new(rt.alloc(), rt.stdout())?;
+    let alloc = rt.alloc();
+    let mut out = BufWriter::new(alloc, rt.stdout())?;
     let deposit = Deposit::new(Dollars(500)).unwrap();
     let Ok(pool) = Pool::new(&[Dollars(170), Dollars(233), Dollars(97)]) else {
         return Ok(());
@@ -61,11 +60,11 @@ fn main(rt: HostRuntime) -> io::Result<()> {
         pool: Book::new(pool),
     };
     writeln!(out, "deposit 500 | pool 170 233 97")?;
-    houses.run(&mut out, &calls::first_auction())?;
-    houses.run(&mut out, &calls::losses())?;
-    houses.run(&mut out, &calls::recovery())?;
-    houses.run(&mut out, &calls::second_auction())?;
-    houses.run(&mut out, &calls::more_losses())?;
-    houses.run(&mut out, &calls::third_auction())?;
+    houses.run(alloc, &mut out, &calls::first_auction())?;
+    houses.run(alloc, &mut out, &calls::losses())?;
+    houses.run(alloc, &mut out, &calls::recovery())?;
+    houses.run(alloc, &mut out, &calls::second_auction())?;
+    houses.run(alloc, &mut out, &calls::more_losses())?;
+    houses.run(alloc, &mut out, &calls::third_auction())?;
     out.flush()
 }

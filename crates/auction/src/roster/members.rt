@@ -13,7 +13,7 @@ use share::units::Dollars;
 
 pub const MOST_MEMBERS: u16 = 32;
 
-pub const MOST_AMOUNT: u64 = 100_000_000;
+pub const MOST_AMOUNT: Dollars = Dollars(100_000_000);
 
 // Whether a member can have a number.
 fn is_number(member: u16) -> bool
@@ -27,7 +27,7 @@ impl Member {
     fn is_too_much(&self) -> bool
         ensures { result ≡ too_much self.now.fund.0 self.now.assessment.0 }
     {
-        self.fund.0 > MOST_AMOUNT || self.assessment.0 > MOST_AMOUNT
+        self.fund > MOST_AMOUNT || self.assessment > MOST_AMOUNT
     }
 }
 

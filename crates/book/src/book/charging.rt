@@ -23,13 +23,13 @@ use share::refusal::Refusal;
 use share::units::Dollars;
 use std::mem;
 
-pub const MOST_LOSS: u64 = 10_000_000_000;
+pub const MOST_LOSS: Dollars = Dollars(10_000_000_000);
 
 // Refuses an amount that may not be charged or recovered.
 fn within_limits(amount: Dollars) -> Result<(), Refusal>
     ensures { numbered result ≡ unless (first_nonzero (loss_tests amount.0)) tt }
 {
-    if amount.0 > MOST_LOSS {
+    if amount > MOST_LOSS {
         Err(Refusal::OutsideLimits)
     } else {
         Ok(())

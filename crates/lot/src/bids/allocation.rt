@@ -48,19 +48,10 @@ impl Bids {
     fn rungs(&self, price: Price) -> [Rung; 64]
         ensures { take self.now.count result ≡ map (rung price) (entries_of self.now) }
     {
-        let none = Rung {
-            above: Parts(0),
-            tied: Parts(0),
-        };
-        let mut rungs = [none; 64];
-        // By place: of what is written through iter_mut a proof knows nothing afterwards.
-        for (i, bid) in self.entries().iter().enumerate() {
-            rungs[i] = Rung {
-                above: Parts(Whose::Everyone.asked(Level::Above(price), bid)),
-                tied: Parts(Whose::Everyone.asked(Level::Exactly(price), bid)),
-            };
-        }
-        rungs
+        self.entries.map(|bid| Rung {
+            above: Parts(Whose::Everyone.asked(Level::Above(price), &bid)),
+            tied: Parts(Whose::Everyone.asked(Level::Exactly(price), &bid)),
+        })
     }
 
     // Their size to the Standard bids above a price, and shares of the rest to those at it.
@@ -71,7 +62,7 @@ impl Bids {
         let rungs = &rungs[..self.count];
         let rest = WHOLE.saturating_sub(self.asked(Whose::Everyone, Level::Above(price)));
         let mut parts = [Parts(0); 64];
-        // By place, as above; and a share is asked for by its place.
+        // By place: a share is asked for by its place, and of what is written through iter_mut a proof knows nothing afterwards.
         for (i, rung) in rungs.iter().enumerate() {
             let own = share(u64::from(rest), rungs, i);
             parts[i] = Parts(rung.above.0 + own as u32);

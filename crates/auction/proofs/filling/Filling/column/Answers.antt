@@ -3,7 +3,7 @@ use Rattle.std.proofs.lemmas.Simd.{map-map}
 use Rattle.share.specs.declared.units.Dollars.{Dollars}
 use Rattle.auction.specs.Filling.{amount_in, numbers_of}
 use Rattle.auction.specs.declared.filling.Brought.{Brought}
-use Rattle.auction.proofs.Arrays.{mapped}
+use Rattle.lot.proofs.Arrays.{mapped}
 use Rattle.auction.proofs.filling.Filling.column.Goals as goal
 
 pub returns-clause-value : goal.returns-clause-value

@@ -3,7 +3,7 @@ use Rattle.std.specs.List.{range_with_len}
 use Rattle.auction.specs.Auctions.{listings_of}
 use Rattle.auction.specs.Filling.{brought_of}
 use Rattle.auction.specs.Places.{places_of}
-use Rattle.auction.proofs.Arrays.{counted, later}
+use Rattle.lot.proofs.Arrays.{counted, later}
 use Rattle.auction.proofs.Rosters.{length-places}
 use Rattle.auction.proofs.auction.cleared.Cleared.filling.Goals as goal
 
