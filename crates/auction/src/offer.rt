@@ -3,6 +3,8 @@ ghost use Rattle.std.specs.Prelude.{◌≡◌, ◌-◌, length, drop, replicate}
 
 use crate::terms::Terms;
 
+pub mod handing;
+
 // The lots of an auction as they are handed over: how many, and the terms of the first four.
 // More than four are refused for their number alone, so that the terms of the others are not held; the places of lots that are not handed over hold zeros.
 // The count is no length of the array, since it may be above four.

@@ -73,15 +73,12 @@ impl Drill {
     }
 
     fn open(&mut self) {
-        self.make(Call::Open(Offer {
-            count: 4,
-            terms: [
-                Terms::new(1_000, 10_000, 2_000_000),
-                Terms::new(2_000, 12_000, 4_000_000),
-                Terms::new(3_000, 13_000, 4_000_000),
-                Terms::new(4_000, 15_000, 6_000_000),
-            ],
-        }));
+        self.make(Call::Open(Offer::of(&[
+            Terms::new(1_000, 10_000, 2_000_000),
+            Terms::new(2_000, 12_000, 4_000_000),
+            Terms::new(3_000, 13_000, 4_000_000),
+            Terms::new(4_000, 15_000, 6_000_000),
+        ])));
     }
 
     // Two bids of each member; every eighth makes its second bid All or Nothing.

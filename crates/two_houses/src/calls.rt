@@ -53,18 +53,8 @@ fn recover(amount: u64) -> Call {
     Call::Recover(Dollars(amount))
 }
 
-fn open_one(first: Terms) -> Call {
-    Call::Open(Offer {
-        count: 1,
-        terms: [first, Terms::default(), Terms::default(), Terms::default()],
-    })
-}
-
-fn open_two(first: Terms, second: Terms) -> Call {
-    Call::Open(Offer {
-        count: 2,
-        terms: [first, second, Terms::default(), Terms::default()],
-    })
+fn open(lots: &[Terms]) -> Call {
+    Call::Open(Offer::of(lots))
 }
 
 // Four members, two lots, bids and excuses; three calls are refused.
@@ -75,10 +65,10 @@ pub(crate) fn first_auction() -> [Call; 17] {
         enrol(3, 100, 150),
         enrol(4, 50, 40),
         enrol(4, 50, 40),
-        open_two(
+        open(&[
             Terms::new(4_000, 10_000, 4_000_000),
             Terms::new(6_000, 12_000, 2_000_000),
-        ),
+        ]),
         standard(1, 1, 6_000, -12_000_000),
         standard(2, 1, 3_000, -15_000_000),
         standard(3, 1, 2_000, -13_000_000),
@@ -109,7 +99,7 @@ pub(crate) fn second_auction() -> [Call; 8] {
         Call::Conclude,
         top_up(1, 90, 0),
         top_up(2, 70, 5),
-        open_one(Terms::new(10_000, 15_000, 6)),
+        open(&[Terms::new(10_000, 15_000, 6)]),
         standard(1, 1, 10_000, 7),
         standard(2, 1, 7_000, 3),
         Call::Close,
@@ -127,7 +117,7 @@ pub(crate) fn third_auction() -> [Call; 5] {
     [
         Call::Conclude,
         Call::Release(4),
-        open_one(Terms::new(10_000, 10_000, 2)),
+        open(&[Terms::new(10_000, 10_000, 2)]),
         all_or_nothing(1, 1, -1),
         Call::Close,
     ]
