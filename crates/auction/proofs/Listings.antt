@@ -1,6 +1,6 @@
 -- Lots as bids come to them. Assumes nothing.
 use Rattle.std.proofs.Common.{◌≡◌, ℕ, zero, suc, ◌-◌, ◌<◌, ◌≤◌, false, cond, eqb, List, [], ◌∷◌, ◌++◌, map, length, get_or, take, set, sym, refl, ap, ◌∙◌, arith}
-use Rattle.std.proofs.lemmas.List.{length-map, length-take-le, length-set, get_or-take, set-get_or, take-map}
+use Rattle.std.proofs.lemmas.List.{length-map, length-take-le, length-set, get_or-take, get_or_past, set-get_or, take-map}
 use Rattle.std.proofs.lemmas.Bool.Decides.{nat_tests}
 use Rattle.share.specs.Refusals.{left_by, first_nonzero, if_so}
 use Rattle.share.specs.declared.refusal.Refusal.TheVariants.{OutOfRange, ExcusedByCall}
@@ -43,6 +43,9 @@ length-first ls n h = length-map (take n ls) listing_of ∙ length-take-le n ls 
 
 pub lot-in : (ls : List Lot) (n l i : ℕ) → i ≡ l - 1 → i < n → get_or (map listing_of ls) i unlisted ≡ lot_at (map listing_of (take n ls)) l
 lot-in ls n l i e h = sym (ap (λ xs. lot_at xs l) (sym (take-map listing_of n ls)) ∙ get_or-take n (map listing_of ls) (l - 1) unlisted (omega (arith, e, h)) ∙ ap (λ k. get_or (map listing_of ls) k unlisted) (sym e))
+
+pub lot-past : (ls : List Lot) (n l i : ℕ) → n ≤ length ls → i ≡ l - 1 → n ≤ i → unlisted ≡ lot_at (map listing_of (take n ls)) l
+lot-past ls n l i few e h = sym (get_or_past (map listing_of (take n ls)) (l - 1) unlisted (omega (arith, length-first ls n few, e, h)))
 
 -- another lot at a number
 take-set-in : {X : Type 0} (xs : List X) (n i : ℕ) (y : X) → take n (set xs i y) ≡ set (take n xs) i y

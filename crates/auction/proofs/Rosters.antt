@@ -1,14 +1,21 @@
 -- The places of a roster, as the code holds them. Assumes nothing.
-use Rattle.std.proofs.Common.{◌≡◌, ℕ, suc, ◌+◌, ◌-◌, ◌*◌, ◌/◌, ◌≤◌, List, [], ◌∷◌, map, length, set, Option, refl, ap, ◌∙◌, arith}
-use Rattle.std.proofs.lemmas.List.{length-map, map-set, take_all}
+use Rattle.std.proofs.Common.{◌≡◌, ℕ, suc, ◌+◌, ◌-◌, ◌*◌, ◌/◌, ◌<◌, ◌≤◌, List, [], ◌∷◌, map, length, get_or, set, None, Option, sym, refl, ap, ◌∙◌, arith}
+use Rattle.std.proofs.lemmas.List.{length-map, get_or-map, get_or_past, map-set, take_all}
 use Rattle.share.specs.Rule.{total, limit, upto, share_of}
 use Rattle.auction.specs.Enrolling.{put}
 use Rattle.auction.specs.Places.{places_of}
-use Rattle.auction.specs.Roster.{most_amount, held, fund_of, fund_in, funds, Funded}
+use Rattle.auction.specs.Roster.{most_amount, held, place, fund_of, fund_in, funds, Funded}
 use Rattle.auction.specs.declared.member.Member.{Member}
 use Rattle.auction.specs.declared.place.Place.{Place}
 use Rattle.auction.specs.declared.roster.Roster.{Roster}
 use Rattle.auction.proofs.Parts.{total-cons}
+
+-- who stands at a place that is there, and past the last
+pub place_in : (ps : List Place) (m i : ℕ) (d : Place) → i ≡ m - 1 → i < length ps → held (get_or ps i d) ≡ place (map held ps) m
+place_in ps m i d e h = sym (get_or-map held ps i d None h) ∙ ap (λ k. get_or (map held ps) k None) e
+
+pub place-past : (ps : List Place) (m i : ℕ) → i ≡ m - 1 → length ps ≤ i → None ≡ place (map held ps) m
+place-past ps m i e h = sym (get_or_past (map held ps) (m - 1) None (omega (arith, length-map ps held)))
 
 -- another entry at a place that is there
 pub put_in : (ps : List Place) (m i : ℕ) (x : Option Member) → i ≡ m - 1 → map held (set ps i (record { 0 = x })) ≡ put (map held ps) m x

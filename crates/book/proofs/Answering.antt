@@ -1,10 +1,10 @@
 -- Calls that are answered after some tests were passed. Assumes nothing.
-use Rattle.std.proofs.Common.{◌≡◌, ℕ, zero, suc, Bool, true, false, not, ◌||◌, List, [], ◌∷◌, Result, sym, refl, ap, ◌∙◌, ap₂, arith}
+use Rattle.std.proofs.Common.{◌≡◌, ℕ, zero, suc, ◌<◌, Bool, true, false, not, ◌||◌, List, [], ◌∷◌, Err, Result, sym, refl, ap, ◌∙◌, ap₂, arith}
 use Rattle.share.specs.Refusals.{unless, left_by, if_so, first_nonzero}
 use Rattle.share.specs.declared.refusal.Refusal.TheVariants.{WrongPhase, OutOfRange}
 use Rattle.auction.specs.Lots.{Listing}
 use Rattle.book.specs.Calls.{phase_of, same_phase, said}
-use Rattle.book.specs.Next.{reply, answer, with_lots}
+use Rattle.book.specs.Next.{after, reply, answer, next, with_lots}
 use Rattle.book.specs.Refusals.{out_of_phase, tests, declined}
 use Rattle.book.specs.State.{State}
 use Rattle.book.specs.declared.answers.Answer.{Answer}
@@ -35,6 +35,14 @@ answered-by {T} b k f n x r d e h = ap (said f) h ∙ go n ∙ ap₂ unless (sym
     go : (m : ℕ) → said f (unless m x) ≡ unless m (f x)
     go zero = refl
     go (suc m) = refl
+
+-- the answer and the book where one of the first tests refuses
+pub refused-by : {S T : Type 0} (b : State) (k : Call) (f : T → Answer) (m n : ℕ) (y : S) (r : Result T ℕ) → Err n ≡ unless m y → (0 < m → declined b k ≡ m) → r ≡ Err n → (said f r ≡ answer b k) × (b ≡ next b k)
+refused-by b k f zero n y r e d h = let z : ◌≡◌ {A = ℕ} 0 1 = cc in absurd (omega arith)
+refused-by b k f (suc m) n y r e d h =
+    let same : n ≡ suc m = cc in
+    let now = d (omega arith) in
+    (ap (said f) h ∙ ap Err same ∙ ap (λ i. unless i (reply b k)) (sym now), ap (λ i. left_by i b (after b k)) (sym now))
 
 -- the first two of several tests
 pub both-pass : (x y : ℕ) (ns : List ℕ) → first_nonzero (x ∷ y ∷ []) ≡ 0 → (x ≡ 0) × (first_nonzero (x ∷ y ∷ ns) ≡ first_nonzero ns)

@@ -80,7 +80,7 @@ impl Pools {
         }
     }
 
-    // Their capacity.
+    // Their capacity. This and `standing` differ in the method that they call, and a closure would be no plainer; the sum is one of numbers, of which the search knows the bound.
     pub(crate) fn capacity(&self) -> Dollars
         ensures value { result.0 ≡ pools_capacity self.now }
         ensures bound { result.0 ≤ 9600000000 }

@@ -6,13 +6,14 @@ use book::book::Book;
 use command::command::Command;
 use command::question::Question;
 use resource::deposit::Deposit;
+use share::refusal::Refusal;
 use share::units::Dollars;
 use std::io::{BufRead, BufReader, BufWriter, Write};
 use std::{fmt, io};
 use words::Words;
 
 // What the house of the first book puts in.
-const FIRST_HOUSE: u64 = 50_000_000;
+const FIRST_HOUSE: Dollars = Dollars(50_000_000);
 
 // A book over a deposit, and another after each house that is taken.
 #[derive(Drop)]
@@ -31,7 +32,7 @@ impl Console {
             }
             Ok(Command::Call(call)) => {
                 echo(out, line)?;
-                writeln!(out, "{}", Reply(self.book.apply::<Deposit>(&call)))
+                tell(out, self.book.apply::<Deposit>(&call))
             }
             Ok(Command::Ask(question)) => {
                 echo(out, line)?;
@@ -59,28 +60,24 @@ impl Console {
         let book = &self.book;
         match question {
             Question::Phase => writeln!(out, "{}", book.phase()),
-            Question::Member(member) => writeln!(out, "{}", Reply(book.member(member))),
-            Question::Requirement { member, lot } => {
-                writeln!(out, "{}", Reply(book.requirement(member, lot)))
-            }
-            Question::Price(lot) => writeln!(out, "{}", Reply(book.price(lot).map(OrNone))),
-            Question::Allocation { lot, entry } => {
-                writeln!(out, "{}", Reply(book.allocation(lot, entry)))
-            }
-            Question::Average { member, lot } => {
-                writeln!(out, "{}", Reply(book.average(member, lot).map(OrNone)))
-            }
-            Question::Class { member, lot } => {
-                writeln!(out, "{}", Reply(book.class(member, lot).map(OrNone)))
-            }
-            Question::Seat(seat) => writeln!(out, "{}", Reply(book.seat(seat))),
-            Question::Bears { member, seat } => writeln!(
-                out,
-                "{}",
-                Reply(book.bears(member, seat))
-            ),
+            Question::Member(member) => tell(out, book.member(member)),
+            Question::Requirement { member, lot } => tell(out, book.requirement(member, lot)),
+            Question::Price(lot) => tell(out, book.price(lot).map(OrNone)),
+            Question::Allocation { lot, entry } => tell(out, book.allocation(lot, entry)),
+            Question::Average { member, lot } => tell(out, book.average(member, lot).map(OrNone)),
+            Question::Class { member, lot } => tell(out, book.class(member, lot).map(OrNone)),
+            Question::Seat(seat) => tell(out, book.seat(seat)),
+            Question::Bears { member, seat } => tell(out, book.bears(member, seat)),
         }
     }
+}
+
+// Prints what a call or a question answers.
+fn tell<W: Write, A: fmt::Display + Drop>(
+    out: &mut W,
+    answer: Result<A, Refusal>,
+) -> io::Result<()> {
+    writeln!(out, "{}", Reply(answer))
 }
 
 // What there is, or the word none, to be printed.
@@ -107,7 +104,7 @@ fn echo<W: Write>(out: &mut W, line: &[u8]) -> io::Result<()> {
 
 fn main(rt: HostRuntime) -> io::Result<()> {
     let mut out = BufWriter::new(rt.alloc(), rt.stdout())?;
-    let house = Deposit::new(Dollars(FIRST_HOUSE)).unwrap();
+    let house = Deposit::new(FIRST_HOUSE).unwrap();
     let mut console = Console {
         book: Book::new(house),
     };

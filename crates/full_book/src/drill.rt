@@ -1,6 +1,7 @@
 // A full book, and the calls of an auction on it.
 use crate::draws::Draws;
 use crate::sums::Sums;
+use auction::member::Member;
 use auction::offer::Offer;
 use auction::terms::Terms;
 use book::book::Book;
@@ -11,7 +12,7 @@ use share::units::Dollars;
 
 const MEMBERS: u16 = 32;
 
-const HOUSE: u64 = 500_000_000;
+const HOUSE: Dollars = Dollars(500_000_000);
 // of a recovery and four charges
 const GROUPS: u16 = 250;
 
@@ -22,30 +23,29 @@ pub(crate) struct Drill {
     pub sums: Sums,
 }
 
-// The fund that a member has at the beginning of each auction.
-fn first_fund(member: u16) -> u64 {
-    70_000_000 + 500_000 * u64::from(member)
-}
-
-// Its assessment likewise.
-fn first_assessment(member: u16) -> u64 {
-    60_000_000 + 700_000 * u64::from(member)
+// What a member has at the beginning of each auction.
+fn first(member: u16) -> Member {
+    Member {
+        fund: Dollars(70_000_000 + 500_000 * u64::from(member)),
+        assessment: Dollars(60_000_000 + 700_000 * u64::from(member)),
+    }
 }
 
 impl Drill {
     // A book with all its members.
     pub(crate) fn new() -> Drill {
-        let house = Deposit::new(Dollars(HOUSE)).unwrap();
+        let house = Deposit::new(HOUSE).unwrap();
         let mut drill = Drill {
             book: Book::new(house),
             draws: Draws(1),
             sums: Sums::default(),
         };
         for member in 1..=MEMBERS {
+            let Member { fund, assessment } = first(member);
             drill.make(Call::Enrol {
                 member,
-                fund: Dollars(first_fund(member)),
-                assessment: Dollars(first_assessment(member)),
+                fund,
+                assessment,
             });
         }
         drill
@@ -141,8 +141,9 @@ impl Drill {
         let Ok(held) = self.book.member(member) else {
             return;
         };
-        let fund = Dollars(first_fund(member).saturating_sub(held.fund.0));
-        let assessment = Dollars(first_assessment(member).saturating_sub(held.assessment.0));
+        let first = first(member);
+        let fund = Dollars(first.fund.0.saturating_sub(held.fund.0));
+        let assessment = Dollars(first.assessment.0.saturating_sub(held.assessment.0));
         self.sums.add_top_up(member, fund, assessment);
         self.make(Call::TopUp {
             member,

@@ -1,6 +1,6 @@
--- Arrays that are made by a function. Assumes nothing.
-use Rattle.std.proofs.Common.{◌≡◌, ℕ, zero, suc, ◌+◌, ◌<◌, List, ◌∷◌, map, length, get_or, sym, refl, ap, ◌∙◌, subst, arith}
-use Rattle.std.proofs.lemmas.List.{same_lists, length-map, get_or-map}
+-- Arrays that are made by a function, or filled from the front. Assumes nothing.
+use Rattle.std.proofs.Common.{◌≡◌, ℕ, zero, suc, ◌+◌, ◌<◌, ◌≤◌, List, [], ◌∷◌, ◌++◌, map, length, get_or, take, set, sym, refl, ap, ◌∙◌, subst, ap₂, arith}
+use Rattle.std.proofs.lemmas.List.{same_lists, length-map, get_or-map, take_more, take_more_set, take_all}
 use Rattle.std.proofs.lemmas.List.FromFn.{length-map-range_with_len, get_or-map-range_with_len}
 use Rattle.std.specs.Array.{IsFromFnResult, IsFromFnResultFrom, IsMapOf, MapsFrom}
 use Rattle.std.specs.Iterator.{ActsAs}
@@ -43,3 +43,15 @@ module _ {F B : Type 0} {g : Mut F (ℕ × Unit {0}) B} {f : F} (h : ℕ → B) 
 pub later : {B : Type 0} (h : ℕ → B) (a n : ℕ) → map (λ i. h (i + 1)) (range_with_len a n) ≡ map h (range_with_len (a + 1) n)
 later h a zero = refl
 later h a (suc n) = ap (λ ys. h (a + 1) ∷ ys) (later h (a + 1) n)
+
+-- arrays that are filled from the front
+module _ {X : Type 0} (ys : List X) where
+  -- one element more
+  pub fill_more : (xs : List X) (i : ℕ) (y d : X) → i < length xs → i < length ys → take i xs ≡ take i ys → y ≡ get_or ys i d → take (i + 1) (set xs i y) ≡ take (i + 1) ys
+  fill_more xs i y d h k e f = take_more_set xs i y h ∙ ap₂ (λ zs z. zs ++ z ∷ []) e f ∙ sym (take_more ys i d k)
+
+  -- all of them
+  pub fill-all : (xs : List X) (n i : ℕ) → length ys ≡ n → n ≤ i → i ≤ n → take i xs ≡ take i ys → take n xs ≡ ys
+  fill-all xs n i e h k f =
+      let end : i ≡ n = omega arith in
+      subst (λ j. take j xs ≡ take j ys) end f ∙ take_all n ys (omega (arith, e))

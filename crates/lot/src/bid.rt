@@ -23,7 +23,7 @@ pub struct Bid {
     pub price: Price,
 }
 
-// Whose bids are meant.
+// Whose bids are meant. An enum and no closure, since the definitions speak of it too.
 #[derive(Clone, Copy, PartialEq, Eq, Debug)]
 pub enum Whose {
     Everyone,

@@ -13,6 +13,7 @@ use std::io;
 use std::io::{BufRead, BufReader, BufWriter, Write};
 
 // A sheet as far as it was read: the lot that is open, and how many lots and lines there were.
+// They are counted up to the greatest number, since no bound on lines is known.
 #[derive(Clone, Copy, Default)]
 struct Sheet {
     open: Option<Bids>,
@@ -62,28 +63,31 @@ impl Sheet {
         };
         writeln!(out, "lot {}", self.lots)?;
         let allocations = bids.allocations();
-        for ((entry, bid), parts) in (1..=64u64).zip(bids.entries()).zip(allocations.parts()) {
-            report(out, entry, bid, *parts)?;
+        let mut allocated: u64 = 0;
+        for (place, (bid, parts)) in bids.entries().iter().zip(allocations.parts()).enumerate() {
+            allocated = allocated.saturating_add(u64::from(parts.0));
+            report(out, place.saturating_add(1), bid, *parts)?;
         }
         match bids.clearing() {
             None => writeln!(out, "price none")?,
             Some(Cleared { price, by }) => writeln!(out, "price {price} by {by}")?,
         }
-        let allocated = (allocations.parts().iter()).fold(
-            0,
-            |all: u64, parts| all.saturating_add(u64::from(parts.0)),
-        );
         writeln!(out, "allocated {allocated}")
     }
 }
 
 // Prints a bid and what it gets.
-fn report<W: Write>(out: &mut W, entry: u64, bid: &Bid, parts: Parts) -> io::Result<()> {
-    let member = bid.member;
-    let kind = bid.kind;
-    let size = bid.size;
-    let price = bid.price;
-    writeln!(out, "bid {entry} {member} {kind} {size} {price} -> {parts}")
+fn report<W: Write>(out: &mut W, entry: usize, bid: &Bid, parts: Parts) -> io::Result<()> {
+    let Bid {
+        member,
+        kind,
+        size,
+        price,
+    } = *bid;
+    writeln!(
+        out,
+        "bid {entry} {member} {kind} {size} {price} -> {parts}"
+    )
 }
 
 fn main(rt: HostRuntime) -> io::Result<()> {

@@ -45,31 +45,31 @@ fn calls(first: u64) -> [Call; 13] {
     ]
 }
 
-// The number of a refusal, 0 where there is none.
+// The number of a refusal, to be printed: 0 where there is none.
 fn number_of<T: Drop>(answer: Result<T, Refusal>) -> u8 {
     answer.err().map_or(0, Refusal::number)
 }
 
-// Makes a call on any resource, and says the number of its refusal.
-fn make<R: Resource>(resource: &mut R, call: Call) -> u8 {
+// Makes a call on any resource.
+fn make<R: Resource>(resource: &mut R, call: Call) -> Result<(), Refusal> {
     match call {
-        Call::Stand(n) => number_of(resource.stand_at(Dollars(n))),
+        Call::Stand(n) => resource.stand_at(Dollars(n)),
         Call::Fill(n) => {
             resource.fill(Dollars(n));
-            0
+            Ok(())
         }
         Call::WriteOff => {
             resource.settle();
-            0
+            Ok(())
         }
     }
 }
 
 // Makes a call on any resource, and prints it with the number of its refusal and what it leaves.
 fn run<W: Write, R: Resource>(out: &mut W, resource: &mut R, call: Call) -> io::Result<()> {
-    let number = make(resource, call);
-    let capacity = resource.capacity().0;
-    let standing = resource.standing().0;
+    let number = number_of(make(resource, call));
+    let capacity = resource.capacity();
+    let standing = resource.standing();
     write!(
         out,
         "{call} -> {number} capacity {capacity} standing {standing}"

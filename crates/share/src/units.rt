@@ -1,4 +1,4 @@
-// Units that are never added together or compared: each is a struct of its own.
+// Units that are never mixed in a sum or a comparison: each is a struct of its own. `Display` is written for each, since an impl by a macro is refused.
 ghost use Rattle.std.specs.Fmt.{decimal};
 ghost use Rattle.std.specs.Prelude.{◌≡◌, ◌+◌, ◌-◌, ◌<◌, ◌≤◌, ◌^◌, Some};
 

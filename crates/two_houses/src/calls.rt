@@ -5,6 +5,7 @@ use book::calls::Call;
 use lot::bid::Kind;
 use share::units::Dollars;
 
+// A function for each call, by its name.
 fn enrol(member: u16, fund: u64, assessment: u64) -> Call {
     Call::Enrol {
         member,

@@ -14,7 +14,7 @@ use std::io::{BufWriter, Write};
 mod calls;
 mod printing;
 
-use printing::print_call;
+use printing::Shown;
 
 // Two books over houses of one capacity.
 #[derive(Drop)]
@@ -31,8 +31,7 @@ impl Houses {
         let _ = self.deposit.run::<Pool>(calls, &mut one);
         let _ = self.pool.run::<Deposit>(calls, &mut other);
         for ((call, one), other) in calls.iter().zip(one).zip(other) {
-            print_call(out, *call)?;
-            writeln!(out, " -> {} | {}", Reply(one), Reply(other))?;
+            writeln!(out, "{} -> {} | {}", Shown(*call), Reply(one), Reply(other))?;
         }
         self.print_seats(out)
     }

@@ -18,7 +18,7 @@ use lot::bid::Price;
 
 impl Auction {
     // The price of each lot; none where it fails.
-    // This loop and the next stay two: one function for both would take a closure, and its contract speak of the closure's calls and of no price.
+    // This loop and the next stay two, as one over a closure would want a clause on every function that the closure computes and a proof in each caller. An ArrayVec collects only with an allocator.
     pub(crate) fn prices(&self) -> ArrayVec<Option<Price>, 4>
         ensures { result.items ≡ map price_in (listings_of self.now) }
     {

@@ -47,7 +47,7 @@ impl Auction {
         let count = usize::from(offer.count);
         let terms = &offer.terms[..count];
         let mut lots = [Lot::blank(); 4];
-        // By an index: of what is written through `iter_mut` and `zip`, a proof learns nothing, so that the ghost fields of the auction would stay open.
+        // By place: with `iter_mut` and `zip` the auction's ghost fields were not proved, and with `enumerate` the terms would be indexed in its stead.
         for (i, lot) in terms.iter().enumerate() {
             lots[i] = Lot::new(*lot)?;
         }

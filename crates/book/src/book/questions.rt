@@ -25,6 +25,7 @@ fn seat_of<R: Resource>(resource: &R) -> Seat
     }
 }
 
+// Some questions have one shape, and each asks its own of the auction.
 impl<R: Resource> Book<R> {
     // The phase.
     pub fn phase(&self) -> Phase

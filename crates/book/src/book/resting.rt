@@ -17,7 +17,7 @@ use share::refusal::Refusal;
 use share::units::Dollars;
 
 impl<R: Resource> Book<R> {
-    // Makes a number a member with a fund and an assessment.
+    // Makes a number a member with a fund and an assessment, which a caller hands over as two numbers, as all calls do.
     pub fn enrol(&mut self, member: u16, fund: Dollars, assessment: Dollars) -> Result<(), Refusal>
         ensures answer { said done (numbered result) ≡ answer (view R.Resource self.old) (Enrol member fund assessment) }
         ensures after { view R.Resource self.new ≡ next (view R.Resource self.old) (Enrol member fund assessment) }

@@ -64,7 +64,7 @@ impl<R: Resource> Book<R> {
         self.make(call)
     }
 
-    // Makes calls one after another, as long as there is room for their answers, and says how many it made.
+    // Makes calls one after another, as long as there is room for their answers, and says how many it made. The caller brings the room: a book asks for no memory.
     pub fn run<S: Resource>(
         &mut self,
         calls: &[Call],

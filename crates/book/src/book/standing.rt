@@ -47,7 +47,7 @@ impl<R: Resource> Book<R> {
         }
     }
 
-    // The capacity of all seats.
+    // The capacity of all seats. This and `standing` differ in the methods that they call.
     pub(crate) fn capacity(&self) -> Dollars
         ensures { result.0 ≡ total (capacities (view R.Resource self.now)) }
     {

@@ -62,7 +62,7 @@ impl Bids {
         let rungs = &rungs[..self.count];
         let rest = WHOLE.saturating_sub(self.asked(Whose::Everyone, Level::Above(price)));
         let mut parts = [Parts(0); 64];
-        // By place: a share is asked for by its place, and of what is written through iter_mut a proof knows nothing afterwards.
+        // By place: the share rule asks for it; through iter_mut the rungs would be indexed in its stead.
         for (i, rung) in rungs.iter().enumerate() {
             let own = share(u64::from(rest), rungs, i);
             parts[i] = Parts(rung.above.0 + own as u32);

@@ -11,6 +11,7 @@ use crate::bid::{Bid, Level, Price, Whose};
 use share::units::Parts;
 
 // A sum over some parts divided by their number, rounded down toward minus infinity.
+// That the parts are some is asked here and below: `best_price` sees to it once, and a type for it would be taken apart in each clause.
 fn mean(worth: i64, parts: u32) -> i64
     requires { 0 < parts }
     ensures { result ≡ int_div_euclid worth (pos parts) }
@@ -28,7 +29,7 @@ impl Whose {
 }
 
 impl Bids {
-    // Price × parts over all their parts above a price.
+    // Price × parts over all their parts above a price. This and `asked` sum numbers of two types; one function for both would be the chain again.
     fn worth_above(&self, whose: Whose, price: Price) -> i64
         ensures { result ≡ all_worth_above whose price (entries_of self.now) }
     {

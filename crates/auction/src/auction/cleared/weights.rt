@@ -39,7 +39,8 @@ impl<'a> Cleared<'a> {
         self.prices.iter().filter(|price| price.is_none()).count() as u16
     }
 
-    // The senior and the subordinate part of the lot amount at a place.
+    // The senior and the subordinate part of the lot amount at a place. By place, since the share rule asks for it; the prices are one list for all members, what is earned one for each.
+    // An amount's limit is asked here and below: an amount is any number in the definitions, and a type for it would be made at each call.
     fn own(&self, earned: Earned, amount: Dollars, i: usize) -> Tranches
         requires bounded { amount.0 ≤ limit }
         requires within { i < length (listings_of self.now.auction.now) }
