@@ -76,9 +76,8 @@ impl<R: Resource> Book<R> {
         ensures law { Law R.Resource S.Resource }
     {
         let count = calls.len().min(answers.len());
-        // By an index: behind a `zip` with `iter_mut` a proof knows how many answers there are, and not which.
-        for i in 0..count {
-            answers[i] = self.apply::<S>(&calls[i]);
+        for (i, answer) in answers[..count].iter_mut().enumerate() {
+            *answer = self.apply::<S>(&calls[i]);
         }
         count
     }
