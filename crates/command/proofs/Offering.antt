@@ -1,7 +1,9 @@
 -- An offer by its count and its terms. Assumes nothing.
-use Rattle.std.proofs.Common.{◌≡◌, ℕ, zero, suc, ◌-◌, ◌/◌, ◌%◌, ◌<◌, ◌≤◌, List, [], ◌∷◌, length, take, drop, replicate, Ok, Err, Result, sym, refl, ap, ◌∙◌, subst, arith, length-take}
+use Rattle.std.proofs.Common.{◌≡◌, ℕ, zero, suc, ◌-◌, ◌/◌, ◌%◌, ◌<◌, ◌≤◌, List, [], ◌∷◌, length, take, drop, replicate, Ok, Err, Result, sym, refl, ap, ◌∙◌, subst, arith, length-take, take_all}
 use Rattle.std.proofs.lemmas.Bool.{ne_eqb}
 use Rattle.words.specs.Words.{word_count}
+use Rattle.arrayvec.specs.ArrayVec.{ArrayVec}
+use Rattle.auction.specs.Offers.{terms_of}
 use Rattle.auction.specs.contracts.offer.Offer.{the_ghost, the_propositions}
 use Rattle.auction.specs.contracts.terms.Terms as terms
 use Rattle.auction.specs.declared.offer.Offer.{Offer, four-type, plain-type}
@@ -75,3 +77,25 @@ whole o h =
     let lots : List Terms = take o.count o.terms in
     let many : told (length lots) ≡ o.count = omega (arith, length-take o.count o.terms, o.four) in
     same-offer (told (length lots)) o.count (first_four lots) o.terms (four-held lots) (zeros-behind lots) o.four o.plain many (places o.count o.terms h o.four o.plain)
+
+-- the terms of the offer of the first four are the first four with zeros behind them
+of-four : (lots : List Terms) → first_four (take 4 lots) ≡ first_four lots
+of-four [] = refl
+of-four (a ∷ []) = refl
+of-four (a ∷ b ∷ []) = refl
+of-four (a ∷ b ∷ c ∷ []) = refl
+of-four (a ∷ b ∷ c ∷ d ∷ lots) = refl
+
+offered-four : (o : Offer) (lots : List Terms) → o.count ≡ told (length (take 4 lots)) → terms_of o ≡ take 4 (take 4 lots) → o.terms ≡ first_four lots
+offered-four o lots e h =
+    let few : o.count ≤ 4 = omega (arith, length-take 4 lots, e) in
+    sym (places o.count o.terms few o.four o.plain) ∙ ap first_four (h ∙ take_all 4 (take 4 lots) (omega (arith, length-take 4 lots))) ∙ of-four lots
+
+pub by-held : (o : Offer) (held : ArrayVec Terms) (n : ℕ) (rest : List ℕ) (lent : List Terms) → Ok held ≡ given (lots_by n rest) (λ lots. Ok (record { items = take 4 lots })) → lent ≡ held.items → o.count ≡ told (length lent) → terms_of o ≡ take 4 lent → Ok o.terms ≡ given (lots_by n rest) (λ lots. Ok (first_four lots))
+by-held o held n rest lent = by-each (lots_by n rest)
+  where
+    by-each : (r : Result (List Terms) Fault) → ◌≡◌ {A = Result (ArrayVec Terms) Fault} (Ok held) (given r (λ lots. Ok (record { items = take 4 lots }))) → lent ≡ held.items → o.count ≡ told (length lent) → terms_of o ≡ take 4 lent → ◌≡◌ {A = Result (List Terms) Fault} (Ok o.terms) (given r (λ lots. Ok (first_four lots)))
+    by-each (Ok lots) e l many h =
+        let is : lent ≡ take 4 lots = cc in
+        ap Ok (offered-four o lots (many ∙ ap (λ (l : List Terms). told (length l)) is) (h ∙ ap (take 4) is))
+    by-each (Err fault) e l many h = let never : ◌≡◌ {A = ℕ} 0 1 = cc in absurd (omega arith)

@@ -1,11 +1,12 @@
 // The lots that an `open` hands over.
-ghost use Rattle.command.specs.Opening.{first_four, lots_by, offer_of};
+ghost use Rattle.command.specs.Opening.{lots_by, offer_of};
 ghost use Rattle.command.specs.Readings.{given};
 ghost use Rattle.command.specs.Steps.{ReadLot};
-ghost use Rattle.std.specs.Prelude.{◌≡◌, Ok};
+ghost use Rattle.std.specs.Prelude.{◌≡◌, Ok, take};
 
 use crate::fault::Fault;
 use crate::reading::FromWord;
+use arrayvec::ArrayVec;
 use auction::offer::Offer;
 use auction::terms::Terms;
 use words::{count_words, split_word};
@@ -20,7 +21,8 @@ pub(crate) fn offer(rest: &[u8]) -> Result<Offer, Fault>
         return Err(Fault::Count);
     }
     let lots = words / 3;
-    let terms = first_four(lots, rest)?;
+    let held = first_four(lots, rest)?;
+    let terms = Offer::of(&held).terms;
     Ok(Offer {
         count: lots.min(65_535) as u16,
         terms,
@@ -28,20 +30,15 @@ pub(crate) fn offer(rest: &[u8]) -> Result<Offer, Fault>
 }
 
 // The terms of the first four lots. The words of the others are read too.
-// A place by its index: with `held.get_mut(i)` the proof didn't close, since what an `if let` wrote to `held` is not known where its two ways join.
-fn first_four(lots: usize, line: &[u8]) -> Result<[Terms; 4], Fault>
-    ensures { result ≡ given (lots_by lots line.now) (λ ls. Ok (first_four ls)) }
+fn first_four(lots: usize, line: &[u8]) -> Result<ArrayVec<Terms, 4>, Fault>
+    ensures { result ≡ given (lots_by lots line.now) (λ ls. Ok (record { items = take 4 ls })) }
 {
-    let mut held = [Terms {
-        weight: 0,
-        requirement: 0,
-        pri: 0,
-    }; 4];
+    let mut held = ArrayVec::new();
     let mut rest = line;
-    for i in 0..lots {
+    for _ in 0..lots {
         let (lot, behind) = first_lot(rest)?;
-        if i < 4 {
-            held[i] = lot;
+        if !held.is_full() {
+            held.push(lot);
         }
         rest = behind;
     }

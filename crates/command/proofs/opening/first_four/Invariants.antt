@@ -1,8 +1,7 @@
-use Rattle.std.proofs.Common.{◌≡◌, ◌-◌, length, replicate}
+use Rattle.std.proofs.Common.{◌≡◌, ◌-◌, ◌≤◌, [], length}
 use Rattle.command.proofs.Filling.{filling}
-use Rattle.command.specs.Opening.{no_terms}
 use Rattle.command.proofs.opening.first_four.Given as goal
 
--- the lots to come fill the places as all the lots do
-abbrev pub invariant-loop-i : goal.invariant-loop-i
-invariant-loop-i l = (length l.held ≡ 4) × (filling (l.lots - l.i) l.i l.held l.rest ≡ filling l.lots 0 (replicate 4 no_terms) l.line)
+-- what is held and the lots to come have the same first four as all the lots
+abbrev pub invariant-loop : goal.invariant-loop
+invariant-loop l = (length l.held.items ≤ 4) × (filling (l.lots - l.counter) l.held.items l.rest ≡ filling l.lots [] l.line)
