@@ -1,15 +1,14 @@
 -- What each member brings to the pools, as the code holds it. Assumes nothing.
-use Rattle.std.specs.Prelude.{ℕ, ◌≤◌, List, map, Option, slice_index}
+use Rattle.std.specs.Prelude.{ℕ, List, map, Option}
 use Rattle.share.specs.declared.units.Dollars.{Dollars}
+use Rattle.auction.specs.Brought.{amount_in, weights_over}
 use Rattle.auction.specs.Lots.{Listing}
-use Rattle.auction.specs.Roster.{most_amount, place, fund_of, assessment_of}
+use Rattle.auction.specs.Roster.{place, fund_of, assessment_of}
 use Rattle.auction.specs.Weights.{Weights, first_weight, second_weight, third_weight}
 use Rattle.auction.specs.declared.filling.Brought.{Brought}
 use Rattle.auction.specs.declared.filling.Filling.{Filling}
 use Rattle.auction.specs.declared.filling.Money.{Money}
-use Rattle.auction.specs.declared.filling.Money.TheVariants.{Fund, Assessment}
 use Rattle.auction.specs.declared.filling.Tier.{Tier}
-use Rattle.auction.specs.declared.filling.Tier.TheVariants.{First, Second, Third}
 use Rattle.auction.specs.declared.filling.Tiers.{Tiers}
 use Rattle.auction.specs.declared.member.Member.{Member}
 
@@ -25,17 +24,6 @@ tiers_of r ls m amount = record {
 abbrev pub brought_of : List (Option Member) → List Listing → ℕ → Brought
 brought_of r ls m = record { fund = tiers_of r ls m (fund_of (place r m)); assessment = tiers_of r ls m (assessment_of (place r m)) }
 
--- what of an amount is in a tier
-abbrev pub in_tier : Tier → Tiers → ℕ
-in_tier First t = t.first.0
-in_tier Second t = t.second.0
-in_tier Third t = t.third.0
-
--- what of a member's money is in a tier
-abbrev pub amount_in : Money → Tier → Brought → ℕ
-amount_in Fund t b = in_tier t b.fund
-amount_in Assessment t b = in_tier t b.assessment
-
 -- the rows of a filling
 abbrev pub rows_of : Filling → List Brought
 rows_of f = f.rows
@@ -50,17 +38,4 @@ numbers_of ds = map (λ d. d.0) ds
 
 -- the weights of the six pools
 abbrev pub weights_by : Filling → Weights
-weights_by f = record {
-  first = column_of Fund First f;
-  second = column_of Fund Second f;
-  third = column_of Fund Third f;
-  fifth = column_of Assessment First f;
-  sixth = column_of Assessment Second f;
-  seventh = column_of Assessment Third f;
-}
-
--- no member brings more to a pool than a fund or an assessment may be
-abbrev pub WithinLimits : Weights → Type 0
-WithinLimits ws = (k : ℕ) →
-    (slice_index ws.first k ≤ most_amount) × (slice_index ws.second k ≤ most_amount) × (slice_index ws.third k ≤ most_amount) ×
-    (slice_index ws.fifth k ≤ most_amount) × (slice_index ws.sixth k ≤ most_amount) × (slice_index ws.seventh k ≤ most_amount)
+weights_by f = weights_over (rows_of f)

@@ -1,4 +1,5 @@
 pub mod Auctions
+pub mod Brought
 pub mod Classes
 pub mod Counting
 pub mod Earning

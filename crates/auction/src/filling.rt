@@ -1,4 +1,5 @@
 // What each member brings to the pools. The structs stand alone here.
+ghost use Rattle.auction.specs.Brought.{weights_over, WithinLimits};
 ghost use Rattle.std.specs.Prelude.{◌≡◌, length};
 
 use share::units::Dollars;
@@ -42,9 +43,10 @@ pub struct Outcome {
     pub filling: Filling,
 }
 
-// What each member number brings, in number order.
+// What each member number brings, in number order: to no pool more than a fund or an assessment may be.
 #[derive(Clone, Copy)]
 pub struct Filling {
     rows: [Brought; 32],
     ghost whole: { length rows ≡ 32 },
+    ghost limits: { WithinLimits (weights_over rows) },
 }

@@ -7,12 +7,6 @@ use Rattle.resource.specs.Pools.{Stake, as_made, capacity_of, standing_of}
 use Rattle.resource.specs.declared.pool.Pool.{Pool}
 use Rattle.resource.proofs.Weights.{light-heavy, light-taken}
 use Rattle.resource.specs.Totals.{pool-total, pool-covered}
-use Rattle.auction.specs.Filling.{column_of, weights_by, WithinLimits}
-use Rattle.auction.specs.declared.filling.Filling.{Filling}
-use Rattle.auction.specs.declared.filling.Money.{Money}
-use Rattle.auction.specs.declared.filling.Money.TheVariants.{Fund, Assessment}
-use Rattle.auction.specs.declared.filling.Tier.{Tier}
-use Rattle.auction.specs.declared.filling.Tier.TheVariants.{First, Second, Third}
 use Rattle.book.proofs.Sums.{all-alike}
 use Rattle.book.specs.State.{pools_capacity, pools_standing}
 use Rattle.book.specs.declared.seats.Pools.{Pools}
@@ -25,15 +19,6 @@ taken ws all light = light-taken ws (omega (arith, all)) (omega (arith, all)) (l
 pub is_made : (r : Result Pool Refusal) (n : ℕ) (s : Stake) → as_made (numbered r) ≡ unless n s → n ≡ 0 → is_ok r ≡ true
 is_made (Ok p) n s e z = refl
 is_made (Err x) n s e z = let w : Err (number x) ≡ unless 0 s = e ∙ ap (λ k. unless k s) z in let o : ◌≡◌ {A = ℕ} 0 1 = cc in absurd (omega arith)
-
--- no member brings too much to a pool
-pub light-column : (f : Filling) (m : Money) (t : Tier) → WithinLimits (weights_by f) → Light (column_of m t f)
-light-column f Fund First h k i = (h k).0
-light-column f Fund Second h k i = (h k).1
-light-column f Fund Third h k i = (h k).2
-light-column f Assessment First h k i = (h k).3
-light-column f Assessment Second h k i = (h k).4
-light-column f Assessment Third h k i = (h k).5
 
 -- nothing is light
 pub light-nobody : Light (replicate 32 0)

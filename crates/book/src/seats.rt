@@ -1,6 +1,6 @@
 // The six pools of an auction.
 ghost use Rattle.std.specs.Prelude.{◌≡◌, ◌+◌, ◌-◌, ◌<◌, ◌≤◌, length};
-ghost use Rattle.auction.specs.Filling.{column_of, weights_by, WithinLimits};
+ghost use Rattle.auction.specs.Filling.{column_of, weights_by};
 ghost use Rattle.auction.specs.declared.filling.Tier.TheVariants.{First, Second, Third};
 ghost use Rattle.book.specs.Standing.{borne_by, fresh_stakes, InSeat};
 ghost use Rattle.book.specs.State.{all_idle, pools_borne, pools_capacity, pools_standing, poured, stake_of, stakes_of};
@@ -38,9 +38,8 @@ fn pool(weights: &[Dollars]) -> Pool
     Pool::new(weights).unwrap()
 }
 
-// A pool with what each member brings to it. That nobody brings too much is asked for, here and of what fills more pools: an auction proves it of its whole outcome, and not of each filling.
+// A pool with what each member brings to it.
 fn brought(filling: &Filling, money: Money, tier: Tier) -> Pool
-    requires { WithinLimits (weights_by filling.now) }
     ensures { stake_of result ≡ fresh (column_of money tier filling.now) }
 {
     pool(&filling.column(money, tier))
@@ -68,7 +67,6 @@ pub(crate) fn borne(pool: &Pool, member: u16) -> Dollars
 impl Pools {
     // Pools with what each member brings of a money.
     fn filled(filling: &Filling, money: Money) -> Pools
-        requires { WithinLimits (weights_by filling.now) }
         ensures first { stake_of result.first ≡ fresh (column_of money First filling.now) }
         ensures second { stake_of result.second ≡ fresh (column_of money Second filling.now) }
         ensures third { stake_of result.third ≡ fresh (column_of money Third filling.now) }
@@ -136,7 +134,6 @@ impl Seats {
 
     // Pools with what each member brings.
     pub(crate) fn filled(filling: &Filling) -> Seats
-        requires { WithinLimits (weights_by filling.now) }
         ensures { stakes_of result ≡ fresh_stakes (weights_by filling.now) }
     {
         Seats {

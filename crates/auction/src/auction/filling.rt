@@ -1,9 +1,10 @@
 // What becomes of an auction, and what its members earned in its lots.
 ghost use Rattle.std.specs.Prelude.{◌≡◌, map};
 ghost use Rattle.auction.specs.Auctions.{listings_of};
+ghost use Rattle.auction.specs.Brought.{WithinLimits};
 ghost use Rattle.auction.specs.Counting.{silent};
 ghost use Rattle.auction.specs.Earning.{earned_of};
-ghost use Rattle.auction.specs.Filling.{weights_by, WithinLimits};
+ghost use Rattle.auction.specs.Filling.{weights_by};
 ghost use Rattle.auction.specs.Lots.{failed, price_in};
 ghost use Rattle.auction.specs.Places.{places_of};
 ghost use Rattle.auction.specs.Weights.{fill};

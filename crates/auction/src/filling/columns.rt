@@ -1,5 +1,6 @@
 // The weights of one pool.
-ghost use Rattle.auction.specs.Filling.{in_tier, amount_in, column_of, numbers_of, rows_of};
+ghost use Rattle.auction.specs.Brought.{in_tier, amount_in, weights_over, WithinLimits};
+ghost use Rattle.auction.specs.Filling.{column_of, numbers_of, rows_of};
 ghost use Rattle.std.specs.Prelude.{◌≡◌, length};
 
 use super::{Brought, Filling, Money, Tier, Tiers};
@@ -31,8 +32,9 @@ impl Brought {
 }
 
 impl Filling {
-    // What each of the member numbers brings.
+    // What each of the member numbers brings, none of them too much.
     pub(crate) fn of(rows: [Brought; 32]) -> Filling
+        requires { WithinLimits (weights_over rows) }
         ensures { rows_of result ≡ rows }
     {
         Filling { rows }

@@ -1,7 +1,8 @@
 use Rattle.std.proofs.Common.{ap, ◌∙◌, rules}
 use Rattle.std.proofs.lemmas.Simd.{map-map}
 use Rattle.share.specs.declared.units.Dollars.{Dollars}
-use Rattle.auction.specs.Filling.{amount_in, numbers_of}
+use Rattle.auction.specs.Brought.{amount_in}
+use Rattle.auction.specs.Filling.{numbers_of}
 use Rattle.auction.specs.declared.filling.Brought.{Brought}
 use Rattle.lot.proofs.Arrays.{mapped}
 use Rattle.auction.proofs.filling.Filling.column.Goals as goal
