@@ -84,10 +84,7 @@ fn report<W: Write>(out: &mut W, entry: usize, bid: &Bid, parts: Parts) -> io::R
         size,
         price,
     } = *bid;
-    writeln!(
-        out,
-        "bid {entry} {member} {kind} {size} {price} -> {parts}"
-    )
+    writeln!(out, "bid {entry} {member} {kind} {size} {price} -> {parts}")
 }
 
 fn main(rt: HostRuntime) -> io::Result<()> {

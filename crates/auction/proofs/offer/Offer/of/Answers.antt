@@ -1,4 +1,4 @@
-use Rattle.std.proofs.Common.{◌≡◌, ℕ, ◌+◌, ◌-◌, ◌≤◌, replicate, length, take, length-append, ap, ◌∙◌, rules, arith}
+use Rattle.std.proofs.Common.{◌≡◌, ◌-◌, replicate, length, length-append, ap, ◌∙◌, rules, arith}
 use Rattle.std.proofs.lemmas.List.{drop-replicate, length-drop, length-take}
 use Rattle.std.proofs.lemmas.Slice.{drop-append-drop}
 use Rattle.auction.specs.declared.terms.Terms.{Terms}
