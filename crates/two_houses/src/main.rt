@@ -7,7 +7,6 @@ use book::calls::Call;
 use resource::deposit::Deposit;
 use resource::pool::Pool;
 use share::units::Dollars;
-use std::alloc::Global;
 use std::io;
 use std::io::{BufWriter, Write};
 
@@ -25,13 +24,14 @@ struct Houses {
 
 impl Houses {
     // Has both books make the calls, and prints what each answers and how their seats stand then.
-    fn run<W: Write>(&mut self, alloc: Global, out: &mut W, calls: &[Call]) -> io::Result<()> {
-        let mut one = vec![in alloc; Ok(Answer::Done); calls.len()]?;
-        let mut other = vec![in alloc; Ok(Answer::Done); calls.len()]?;
+    fn run<W: Write, const N: usize>(&mut self, out: &mut W, calls: &[Call; N]) -> io::Result<()> {
+        let mut one = [Ok(Answer::Done); N];
+        let mut other = [Ok(Answer::Done); N];
         let _ = self.deposit.run::<Pool>(calls, &mut one);
         let _ = self.pool.run::<Deposit>(calls, &mut other);
-        for ((call, one), other) in calls.iter().zip(one).zip(other) {
-            writeln!(out, "{} -> {} | {}", Shown(*call), Reply(one), Reply(other))?;
+        for ((call, one), other) in calls.iter().zip(&one).zip(&other) {
+            let (one, other) = (Reply(*one), Reply(*other));
+            writeln!(out, "{} -> {one} | {other}", Shown(*call))?;
         }
         self.print_seats(out)
     }
@@ -48,8 +48,7 @@ impl Houses {
 }
 
 fn main(rt: HostRuntime) -> io::Result<()> {
-    let alloc = rt.alloc();
-    let mut out = BufWriter::new(alloc, rt.stdout())?;
+    let mut out = BufWriter::new(rt.alloc(), rt.stdout())?;
     let deposit = Deposit::new(Dollars(500)).unwrap();
     let Ok(pool) = Pool::new(&[Dollars(170), Dollars(233), Dollars(97)]) else {
         return Ok(());
@@ -59,11 +58,11 @@ fn main(rt: HostRuntime) -> io::Result<()> {
         pool: Book::new(pool),
     };
     writeln!(out, "deposit 500 | pool 170 233 97")?;
-    houses.run(alloc, &mut out, &calls::first_auction())?;
-    houses.run(alloc, &mut out, &calls::losses())?;
-    houses.run(alloc, &mut out, &calls::recovery())?;
-    houses.run(alloc, &mut out, &calls::second_auction())?;
-    houses.run(alloc, &mut out, &calls::more_losses())?;
-    houses.run(alloc, &mut out, &calls::third_auction())?;
+    houses.run(&mut out, &calls::first_auction())?;
+    houses.run(&mut out, &calls::losses())?;
+    houses.run(&mut out, &calls::recovery())?;
+    houses.run(&mut out, &calls::second_auction())?;
+    houses.run(&mut out, &calls::more_losses())?;
+    houses.run(&mut out, &calls::third_auction())?;
     out.flush()
 }
