@@ -2,6 +2,7 @@
 use Rattle.std.proofs.Common.{◌≡◌, ℕ, zero, suc, ◌+◌, ◌<◌, ◌≤◌, List, [], ◌∷◌, ◌++◌, map, length, get_or, take, set, sym, refl, ap, ◌∙◌, subst, ap₂, arith}
 use Rattle.std.proofs.lemmas.List.{same_lists, length-map, get_or-map, take_more, take_more_set, take_all}
 use Rattle.std.proofs.lemmas.List.FromFn.{length-map-range_with_len, get_or-map-range_with_len}
+use Rattle.std.proofs.Math.Seq.{take-append_seam}
 use Rattle.std.specs.Array.{IsFromFnResult, IsFromFnResultFrom, IsMapOf, MapsFrom}
 use Rattle.std.specs.Iterator.{ActsAs}
 use Rattle.std.specs.List.{range_with_len}
@@ -39,6 +40,16 @@ module _ {F B : Type 0} {g : Mut F (ℕ × Unit {0}) B} {f : F} (h : ℕ → B) 
       let inside : j < n = omega (arith, low, made.long) in
       counted-at 0 n j j e (λ m y q below. acts m y q (omega (arith, below))) made.each inside (omega arith) ∙ sym (get_or-map-range_with_len h 0 n j j e inside (omega arith)))
 
+-- of each element of another, by its index
+pub counted-of : {A B : Type 0} (h : A → B) (xs : List A) (d : A) (n : ℕ) → length xs ≡ n → map (λ i. h (get_or xs i d)) (range_with_len 0 n) ≡ map h xs
+counted-of h xs d n long =
+    let at : ℕ → _ = λ i. h (get_or xs i d) in
+    let same = length-map-range_with_len at 0 n in
+    same_lists (map at (range_with_len 0 n)) (map h xs) (omega (arith, same, length-map xs h, long))
+    (λ j e low.
+    let inside : j < n = omega (arith, low, same) in
+    get_or-map-range_with_len at 0 n j j e inside (omega arith) ∙ sym (get_or-map h xs j d e (omega (arith, inside, long))))
+
 -- counted from the next number on
 pub later : {B : Type 0} (h : ℕ → B) (a n : ℕ) → map (λ i. h (i + 1)) (range_with_len a n) ≡ map h (range_with_len (a + 1) n)
 later h a zero = refl
@@ -55,3 +66,7 @@ module _ {X : Type 0} (ys : List X) where
   fill-all xs n i e h k f =
       let end : i ≡ n = omega arith in
       subst (λ j. take j xs ≡ take j ys) end f ∙ take_all n ys (omega (arith, e))
+
+-- arrays whose first places were written, item by item
+pub front : {X : Type 0} (items rest : List X) (n : ℕ) → length items ≡ n → take n (items ++ rest) ≡ items
+front items rest n long = ap (λ m. take m (items ++ rest)) (sym long) ∙ take-append_seam items rest

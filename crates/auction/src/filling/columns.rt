@@ -5,6 +5,7 @@ ghost use Rattle.std.specs.Prelude.{◌≡◌, length};
 
 use super::{Brought, Filling, Money, Tier, Tiers};
 use share::units::Dollars;
+use std::array;
 
 impl Tiers {
     // What of the amount is in a tier.
@@ -40,11 +41,11 @@ impl Filling {
         Filling { rows }
     }
 
-    // What each member brings to one pool, in number order.
+    // What each member brings to one pool, in number order. Not by the array's `map`, which would move each row in and out.
     pub fn column(&self, money: Money, tier: Tier) -> [Dollars; 32]
         ensures value { numbers_of result ≡ column_of money tier self.now }
         ensures len { length result ≡ 32 }
     {
-        self.rows.map(|row| row.at(money, tier))
+        array::from_fn(|i| self.rows[i].at(money, tier))
     }
 }

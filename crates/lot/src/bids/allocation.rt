@@ -44,14 +44,19 @@ impl Bids {
         parts
     }
 
-    // What each Standard bid has above a price and at it.
+    // What each Standard bid has above a price and at it. Not by the array's `map`, which would go over all 64 places and move each in and out.
     fn rungs(&self, price: Price) -> [Rung; 64]
         ensures { take self.now.count result ≡ map (rung price) (entries_of self.now) }
     {
-        self.entries.map(|bid| Rung {
-            above: Parts(Whose::Everyone.asked(Level::Above(price), &bid)),
-            tied: Parts(Whose::Everyone.asked(Level::Exactly(price), &bid)),
-        })
+        let bids = self.entries();
+        let mut rungs = [Rung::default(); 64];
+        for (i, rung) in rungs[..bids.len()].iter_mut().enumerate() {
+            *rung = Rung {
+                above: Parts(Whose::Everyone.asked(Level::Above(price), &bids[i])),
+                tied: Parts(Whose::Everyone.asked(Level::Exactly(price), &bids[i])),
+            };
+        }
+        rungs
     }
 
     // Their size to the Standard bids above a price, and shares of the rest to those at it.

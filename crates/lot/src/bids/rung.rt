@@ -3,7 +3,7 @@ use share::rule::Weighted;
 use share::units::Parts;
 
 // What a bid has above a price and what it has at it: at most one of them is not 0. Those at the price share by their parts.
-#[derive(Clone, Copy)]
+#[derive(Clone, Copy, Default)]
 pub struct Rung {
     pub above: Parts,
     pub tied: Parts,
