@@ -1,7 +1,6 @@
 -- Calls made one after another. Assumes nothing.
-use Rattle.std.proofs.Common.{◌≡◌, ℕ, ◌+◌, ◌<◌, List, [], ◌∷◌, ◌++◌, length, get_or, take, set, Result, sym, refl, ap, ◌∙◌, subst, ap₂, arith}
-use Rattle.std.proofs.lemmas.List.{length-take-le, map_push, take_all, take_more, take_more_set}
-use Rattle.std.proofs.Math.Seq.{take-append_seam}
+use Rattle.std.proofs.Common.{◌≡◌, ℕ, ◌+◌, ◌<◌, List, [], ◌∷◌, ◌++◌, length, get_or, take, drop, set, Result, sym, refl, ap, ◌∙◌, subst, ap₂, arith}
+use Rattle.std.proofs.lemmas.List.{length-take-le, map_push, take_more, take_more_set, drop-drop, drop-set-lt}
 use Rattle.resource.specs.declared.resource.Resource.{Ghosts}
 use Rattle.share.specs.Refusals.{numbered}
 use Rattle.share.specs.declared.refusal.Refusal.{Refusal}
@@ -47,8 +46,6 @@ module _ {R : Type 0} (g : Ghosts R) (b : Book R) where
       subst (λ ks. Ran g b ks (take (i + 1) (set rs i a)) e) (sym next-calls)
       (subst (λ xs. Ran g b (take i calls ++ k ∷ []) xs e) (sym (take_more_set rs i a room)) (ran-push (take i calls) (take i rs) d e k a same so_far does))
 
-  -- all of them, once each place is written
-  pub ran-all : (calls : List Call) (rs rest : List (Result Answer Refusal)) (i n : ℕ) (d : Book R) → i ≡ n → length rs ≡ n → Ran g b (take i calls) (take i rs) d → Ran g b (take n calls) (take n (rs ++ rest)) d
-  ran-all calls rs rest i n d end long ran =
-      let front : take n (rs ++ rest) ≡ take n rs = ap (λ m. take m (rs ++ rest)) (sym long) ∙ take-append_seam rs rest ∙ sym (take_all n rs (omega arith)) in
-      subst (λ xs. Ran g b (take n calls) xs d) (sym front) (subst (λ m. Ran g b (take m calls) (take m rs) d) end ran)
+-- the answers behind it stay
+pub rest_more : {X : Type 0} (xs rs : List X) (i : ℕ) (a : X) → drop i xs ≡ drop i rs → drop (i + 1) (set xs i a) ≡ drop (i + 1) rs
+rest_more xs rs i a e = drop-set-lt (i + 1) xs i a (omega arith) ∙ sym (drop-drop 1 i xs) ∙ ap (drop 1) e ∙ drop-drop 1 i rs

@@ -76,8 +76,9 @@ impl<R: Resource> Book<R> {
         ensures law { Law R.Resource S.Resource }
     {
         let count = calls.len().min(answers.len());
-        for (i, answer) in answers[..count].iter_mut().enumerate() {
-            *answer = self.apply::<S>(&calls[i]);
+        // By an index: behind a `zip` with `iter_mut` a proof knows how many answers there are, and not which; and of a loop through `iter_mut().enumerate()` that leaves out a call, the proof refuses the form and not the call that is missing.
+        for i in 0..count {
+            answers[i] = self.apply::<S>(&calls[i]);
         }
         count
     }
