@@ -9,7 +9,7 @@ use Rattle.std.proofs.lemmas.Bool.Decides.{nat_tests}
 use Rattle.std.specs.Result.{result_unwrap_or}
 use Rattle.std.specs.List.{All}
 use Rattle.std.specs.Str.{bytes_eq}
-use Rattle.words.specs.Names.{SameNames, plain}
+use Rattle.words.specs.Names.{IsTextOf, SameNames, plain}
 
 -- other bytes are not the same
 pub differs : (xs ys : List ℕ) → (xs ≡ ys → ⊥) → bytes_eq xs ys ≡ false
@@ -37,3 +37,13 @@ same_names Q word (Err fault) empty text h none e (b ∷ bytes) name =
     let other : bytes_eq word (b ∷ bytes) ≡ false = differs word (b ∷ bytes) (λ is. h.0 (subst IsUtf8 (sym is) (plain-utf8 (b ∷ bytes) name))) in
     ap (λ (t : Bor (List ℕ)). bytes_eq t.now (b ∷ bytes)) e
     ∙ (ap (λ (t : List ℕ). bytes_eq t (b ∷ bytes)) none ∙ sym other)
+
+pub text_is : {E : Type 0} (Q : E → Type 0) (word : List ℕ) (r : Result (Bor (List ℕ)) E) (empty text : Bor (List ℕ)) → MatchResult r (λ s. (s.now ≡ word) × IsUtf8 word) (λ e. (IsUtf8 word → ⊥) × Q e) → empty.now ≡ [] → text ≡ result_unwrap_or r empty → IsTextOf word text.now
+text_is Q word (Ok s) empty text h none e = record {
+  whole = λ is. ap (λ (t : Bor (List ℕ)). t.now) e ∙ h.0;
+  none = λ isnt. absurd (isnt h.1);
+}
+text_is Q word (Err fault) empty text h none e = record {
+  whole = λ is. absurd (h.0 is);
+  none = λ isnt. ap (λ (t : Bor (List ℕ)). t.now) e ∙ none;
+}

@@ -2,7 +2,7 @@
 #![tactic(auto)]
 
 ghost use Rattle.words.specs.Laws.{WordsLaw};
-ghost use Rattle.words.specs.Names.{SameNames};
+ghost use Rattle.words.specs.Names.{IsTextOf, SameNames};
 ghost use Rattle.words.specs.Numbers.{natural_upto, signed_of};
 ghost use Rattle.words.specs.Iterating.{words_left};
 ghost use Rattle.words.specs.Words.{after_word, blank, word_count, word_of, words_of};
@@ -69,7 +69,8 @@ pub fn count_words(line: &[u8]) -> usize
 
 // A word as a text: empty where it is none, as no name is.
 pub fn text(word: &[u8]) -> &str
-    ensures { SameNames word.now result.now }
+    ensures text { IsTextOf word.now result.now }
+    ensures names { SameNames word.now result.now }
 {
     from_utf8(word).unwrap_or("")
 }
